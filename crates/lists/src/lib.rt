@@ -1,0 +1,1 @@
+// Laws about lists and tests that belong to no one crate. There is no code; the laws stand in specs/.

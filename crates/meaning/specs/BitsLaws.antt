@@ -1,0 +1,33 @@
+-- Laws of bits.
+use mathlib.Core.Path.{_≡_, refl, sym, ap, _∙_}
+use mathlib.Core.List.{List}
+use Prim.Native.Nat.{ℕ, zero, suc, _+_, _*_, _-_, _/_, _%_, _^_, _≤_, _<_}
+use native.Mathlib.Nat.{pow-suc}
+use native.Mathlib.Omega.{arith}
+use lib.ListN.{getD, drop}
+use lib.Seq.{getD-drop}
+use Rattle.meaning.specs.Bits.{bitAt, bitsAt}
+
+pub bit-lt : (s : List ℕ) (i : ℕ) → bitAt s i < 2
+unfolding bitAt
+bit-lt s i = omega arith
+
+-- a part of the image that is cut at byte b
+pub bit-drop : (s : List ℕ) (b i : ℕ) → bitAt (drop b s) i ≡ bitAt s (8 * b + i)
+unfolding bitAt
+bit-drop s b i =
+    let byte : (8 * b + i) / 8 ≡ b + i / 8 = omega arith in
+    let rest : (8 * b + i) % 8 ≡ i % 8 = omega arith in
+    rw (getD-drop b s (i / 8) 0, byte, rest)
+
+pub bits-drop : (s : List ℕ) (b i n : ℕ) → bitsAt (drop b s) i n ≡ bitsAt s (8 * b + i) n
+unfolding bitsAt
+bits-drop s b i zero = refl
+bits-drop s b i (suc n) =
+    let at : 8 * b + (i + n) ≡ 8 * b + i + n = omega arith in
+    rw (bits-drop s b i n, bit-drop s b (i + n), at)
+
+pub bits-lt : (s : List ℕ) (i n : ℕ) → bitsAt s i n < 2 ^ n
+unfolding bitsAt
+bits-lt s i zero = omega arith
+bits-lt s i (suc n) = omega (arith, bits-lt s i n, bit-lt s (i + n), pow-suc 2 n)

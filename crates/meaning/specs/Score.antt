@@ -1,0 +1,56 @@
+-- A query's mentions, a document's score, and which documents match.
+use Prim.Native.Nat.{ℕ, _+_, _*_}
+use mathlib.Core.Bool.{Bool, cond}
+use mathlib.Core.List.{List, [], _∷_, map}
+use lib.ListN.{length, getD}
+use lib.Dec.{ltb, eqb}
+use Rattle.meaning.specs.declared.Mode.{Mode}
+use Rattle.meaning.specs.declared.Mode.the-variants.{Plain, Pruned, All}
+use Rattle.meaning.specs.Image.{Posting, Term, Index}
+use Rattle.meaning.specs.Sheet.{Pair, Query}
+
+-- "each mention counts with its own weight and its own postings"
+pub record Mention : Type 0 where
+  pub weight : ℕ
+  pub postings : List Posting
+  pub largest : ℕ
+
+abbrev pub noTerm : Term
+noTerm = record { postings = []; largest = 0 }
+
+unfoldable pub mentionOf : Index → Pair → Mention
+mentionOf ix p =
+    let t = getD (ix .terms) (p .term) noTerm in
+    record { weight = p .weight; postings = t .postings; largest = t .largest }
+
+unfoldable pub mentions : Index → Query → List Mention
+mentions ix q = map (mentionOf ix) (q .pairs)
+
+-- the impact of document d in a list, 0 where the list does not hold it: no posting has impact 0
+unfoldable pub impactAt : List Posting → ℕ → ℕ
+impactAt [] d = 0
+impactAt (p ∷ ps) d = cond (eqb (p .doc) d) (p .impact) (impactAt ps d)
+
+-- weight times impact, where the mention's list holds d
+abbrev pub gain : Mention → ℕ → ℕ
+gain m d = m .weight * impactAt (m .postings) d
+
+-- 1 where the mention's list holds d
+abbrev pub held : Mention → ℕ → ℕ
+held m d = cond (eqb (impactAt (m .postings) d) 0) 0 1
+
+-- "A document's score is the sum, over the query's mentions whose list holds it, of weight times impact"
+unfoldable pub score : List Mention → ℕ → ℕ
+score [] d = 0
+score (m ∷ ms) d = gain m d + score ms d
+
+-- the number of mentions whose list holds d
+unfoldable pub holders : List Mention → ℕ → ℕ
+holders [] d = 0
+holders (m ∷ ms) d = held m d + holders ms d
+
+-- "In modes 0 and 1 a document matches if some list holds it, in mode 2 if every mention's list does."
+unfoldable pub matches : Mode → List Mention → ℕ → Bool
+matches Plain ms d = ltb 0 (holders ms d)
+matches Pruned ms d = ltb 0 (holders ms d)
+matches All ms d = eqb (holders ms d) (length ms)
