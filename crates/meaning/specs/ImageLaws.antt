@@ -25,7 +25,7 @@ unfolding nextOf
 rising-append N next [] b r s = s
 rising-append N next (p ∷ ps) b r s = (r .0, r .1, r .2, rising-append N (suc (p .doc)) ps b (r .3) s)
 
-postings-rise : (s : List ℕ) (N t w i next n : ℕ) (ps : List Posting) → postingsAt s N t w i next n ≡ good ps → Rising N next ps × (length ps ≡ n)
+pub postings-rise : (s : List ℕ) (N t w i next n : ℕ) (ps : List Posting) → postingsAt s N t w i next n ≡ good ps → Rising N next ps × (length ps ≡ n)
 unfolding postingsAt
 postings-rise s N t w i next zero ps e = rw (← good-same e) (tt, refl)
 postings-rise s N t w i next (suc n) ps e =
@@ -38,7 +38,7 @@ postings-rise s N t w i next (suc n) ps e =
     rw (← good-same (y .2))
     ((omega arith, ltb-true d N (fits .0), ltb-true 0 a (fits .1), r .0), ap suc (r .1))
 
-block-rise : (s : List ℕ) (N t i next left : ℕ) (b : Part) → blockAt s N t i next left ≡ good b → Rising N next (b .postings) × (0 < length (b .postings)) × (length (b .postings) ≤ left)
+pub block-rise : (s : List ℕ) (N t i next left : ℕ) (b : Part) → blockAt s N t i next left ≡ good b → Rising N next (b .postings) × (0 < length (b .postings)) × (length (b .postings) ≤ left)
 unfolding blockAt
 block-rise s N t i next left b e =
     let h = headAt s i in
@@ -54,7 +54,7 @@ block-rise s N t i next left b e =
     let same : _≡_ {A = Part} (record { postings = z .0; stop = stop }) b = good-same (v .1) in
     rw (← same) (r .0, omega arith, omega arith)
 
-blocks-rise : (s : List ℕ) (N t fuel i next left : ℕ) (b : Part) → left ≤ fuel → blocksAt s N t fuel i next left ≡ good b → Rising N next (b .postings) × (length (b .postings) ≡ left)
+pub blocks-rise : (s : List ℕ) (N t fuel i next left : ℕ) (b : Part) → left ≤ fuel → blocksAt s N t fuel i next left ≡ good b → Rising N next (b .postings) × (length (b .postings) ≡ left)
 unfolding blocksAt
 blocks-rise s N t zero i next left b h e = let same = good-same e in rw (← same) (tt, omega arith)
 blocks-rise s N t (suc fuel) i next left b h e = go (eqb left 0) refl (λ i next left b h e. blocks-rise s N t fuel i next left b h e)

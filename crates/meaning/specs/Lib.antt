@@ -15,6 +15,7 @@ pub mod ShortCost
 pub mod BitsLaws
 pub mod JudgedLaws
 pub mod ImageLaws
+pub mod TermLaws
 pub mod RankLaws
 pub mod PlaceLaws
 pub mod PruneLaws
