@@ -16,6 +16,8 @@ pub mod BitsLaws
 pub mod JudgedLaws
 pub mod ImageLaws
 pub mod TermLaws
+pub mod SheetFits
+pub mod SheetLaws
 pub mod RankLaws
 pub mod PlaceLaws
 pub mod PruneLaws
