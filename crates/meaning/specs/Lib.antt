@@ -14,6 +14,9 @@ pub mod Worked
 pub mod ShortCost
 pub mod BitsLaws
 pub mod JudgedLaws
+pub mod ImageFits
+pub mod BlockLaws
+pub mod AcceptLaws
 pub mod ImageLaws
 pub mod TermLaws
 pub mod SheetFits
