@@ -19,6 +19,8 @@ pub mod BlockLaws
 pub mod AcceptLaws
 pub mod ImageLaws
 pub mod TermLaws
+pub mod IndexLaws
+pub mod FillLaws
 pub mod SheetFits
 pub mod SheetLaws
 pub mod RankLaws
