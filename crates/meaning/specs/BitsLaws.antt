@@ -2,9 +2,10 @@
 use mathlib.Core.Path.{_≡_, refl, sym, ap, _∙_}
 use mathlib.Core.List.{List}
 use Prim.Native.Nat.{ℕ, zero, suc, _+_, _*_, _-_, _/_, _%_, _^_, _≤_, _<_}
-use native.Mathlib.Nat.{pow-suc}
+use mathlib.Core.Logic.{⊎-elim}
+use native.Mathlib.Nat.{pow-suc, zero-div, eq-or-lt-of-le}
 use native.Mathlib.Omega.{arith}
-use lib.ListN.{getD, drop}
+use lib.ListN.{getD, drop, length, List·getD-eq-default}
 use lib.Seq.{getD-drop}
 use Rattle.meaning.specs.Bits.{bitAt, bitsAt}
 
@@ -31,3 +32,14 @@ pub bits-lt : (s : List ℕ) (i n : ℕ) → bitsAt s i n < 2 ^ n
 unfolding bitsAt
 bits-lt s i zero = omega arith
 bits-lt s i (suc n) = omega (arith, bits-lt s i n, bit-lt s (i + n), pow-suc 2 n)
+
+-- bits that come to 0 are each 0
+pub bits-zero : (s : List ℕ) (i n : ℕ) → bitsAt s i n ≡ 0 → (j : ℕ) → j < n → bitAt s (i + j) ≡ 0
+unfolding bitsAt
+bits-zero s i zero e j h = absurd (omega arith)
+bits-zero s i (suc n) e j h = ⊎-elim (λ (z : suc j ≡ suc n). let last : j ≡ n = omega arith in rw last (omega arith)) (λ l. bits-zero s i n (omega arith) j (omega arith)) (eq-or-lt-of-le h)
+
+-- past the end every bit is 0
+pub bit-past : (s : List ℕ) (i : ℕ) → 8 * length s ≤ i → bitAt s i ≡ 0
+unfolding bitAt
+bit-past s i h = rw (List·getD-eq-default s 0 {n = i / 8} (omega arith), zero-div (2 ^ (7 - i % 8)))

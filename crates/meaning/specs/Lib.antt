@@ -14,7 +14,15 @@ pub mod Worked
 pub mod ShortCost
 pub mod BitsLaws
 pub mod JudgedLaws
+pub mod ImageFits
+pub mod BlockLaws
+pub mod AcceptLaws
 pub mod ImageLaws
+pub mod TermLaws
+pub mod IndexLaws
+pub mod FillLaws
+pub mod SheetFits
+pub mod SheetLaws
 pub mod RankLaws
 pub mod PlaceLaws
 pub mod PruneLaws
