@@ -1,0 +1,18 @@
+-- A fact of each element of a list, and the element at a place.
+use mathlib.Core.List.{List, [], _∷_}
+use Prim.Native.Nat.{ℕ, zero, suc, _<_}
+use native.Mathlib.Omega.{arith}
+use lib.ListN.{length, getD}
+
+abbrev pub Each : {A : Type 0} → (A → Type 0) → List A → Type 0
+Each P [] = Unit {0}
+Each P (x ∷ xs) = P x × Each P xs
+
+pub each-at : {A : Type 0} (P : A → Type 0) (l : List A) → Each P l → (i : ℕ) → i < length l → (z : A) → P (getD l i z)
+each-at P [] e i h z = absurd (omega arith)
+each-at P (x ∷ xs) e zero h z = e .0
+each-at P (x ∷ xs) e (suc i) h z = each-at P xs (e .1) i (omega arith) z
+
+pub each-more : {A : Type 0} (P Q : A → Type 0) → ((x : A) → P x → Q x) → (l : List A) → Each P l → Each Q l
+each-more P Q f [] e = tt
+each-more P Q f (x ∷ xs) e = (f x (e .0), each-more P Q f xs (e .1))
