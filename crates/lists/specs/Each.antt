@@ -1,4 +1,5 @@
--- A fact of each element of a list, and the element at a place.
+-- A fact of each element of a list, an element at some place, and the one at a given place.
+use mathlib.Core.Path.{_≡_}
 use mathlib.Core.List.{List, [], _∷_}
 use Prim.Native.Nat.{ℕ, zero, suc, _<_}
 use native.Mathlib.Omega.{arith}
@@ -16,3 +17,7 @@ each-at P (x ∷ xs) e (suc i) h z = each-at P xs (e .1) i (omega arith) z
 pub each-more : {A : Type 0} (P Q : A → Type 0) → ((x : A) → P x → Q x) → (l : List A) → Each P l → Each Q l
 each-more P Q f [] e = tt
 each-more P Q f (x ∷ xs) e = (f x (e .0), each-more P Q f xs (e .1))
+
+-- x stands at some place of the list; z is the stand-in that `getD` wants
+abbrev pub Has : {A : Type 0} → A → A → List A → Type 0
+Has z x l = (i : ℕ) × (i < length l) × (getD l i z ≡ x)

@@ -17,6 +17,7 @@ pub mod ImageLaws
 pub mod ScoreLaws
 pub mod OrderLaws
 pub mod RankLaws
+pub mod InsertLaws
 pub mod TableLaws
 pub mod AsideLaws
 pub mod PruneLaws
