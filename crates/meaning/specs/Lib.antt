@@ -24,3 +24,5 @@ pub mod PruneLaws
 pub mod VisitLaws
 pub mod PlaceLaws
 pub mod WalkLaws
+pub mod AnswerLaws
+pub mod BestLaws

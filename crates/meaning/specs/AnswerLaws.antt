@@ -1,0 +1,94 @@
+-- An answer by its numbers: "place, rows found, postings scored, then document and score for each row, then zeros up to k rows".
+use mathlib.Core.Path.{_≡_, refl, sym, ap, _∙_}
+use mathlib.Core.List.{List, [], _∷_}
+use Prim.Native.Nat.{ℕ, zero, suc, _+_, _*_, min, _≤_, _<_}
+use native.Mathlib.Omega.{arith}
+use lib.ListN.{length, getD, take, length-take, List·getD-eq-default}
+use lib.Seq.{getD-take}
+use Rattle.meaning.specs.declared.Mode.{Mode}
+use Rattle.meaning.specs.declared.Row.{Row}
+use Rattle.meaning.specs.Score.{Mention}
+use Rattle.meaning.specs.Rank.{ranked, noRow}
+use Rattle.meaning.specs.Place.{spent}
+use Rattle.meaning.specs.Answer.{costAt, placeOf, filled, answerOf}
+
+-- the numbers of an answer, by name
+abbrev pub placeIn : List ℕ → ℕ
+placeIn a = getD a 0 0
+
+abbrev pub foundIn : List ℕ → ℕ
+foundIn a = getD a 1 0
+
+abbrev pub scoredIn : List ℕ → ℕ
+scoredIn a = getD a 2 0
+
+abbrev pub rowIn : List ℕ → ℕ → Row
+rowIn a i = record { doc = getD a (3 + 2 * i) 0; score = getD a (4 + 2 * i) 0 }
+
+-- the rows of an answer whose place is p: the best k among the matching documents below it
+abbrev pub rowsAt : Mode → List Mention → ℕ → ℕ → List Row
+rowsAt mode ms k p = take k (ranked mode ms p)
+
+pub filled-length : (k : ℕ) (l : List Row) → length (filled k l) ≡ 2 * k
+unfolding filled
+filled-length zero l = refl
+filled-length (suc k) [] = omega (arith, filled-length k [])
+filled-length (suc k) (r ∷ l) = omega (arith, filled-length k l)
+
+pub filled-take : (k : ℕ) (l : List Row) → filled k (take k l) ≡ filled k l
+unfolding filled
+filled-take zero l = refl
+filled-take (suc k) [] = refl
+filled-take (suc k) (r ∷ l) = rw (filled-take k l)
+
+-- row i of what is filled in, and no row past the rows
+abbrev pairAt : List ℕ → ℕ → Row
+pairAt s i = record { doc = getD s (2 * i) 0; score = getD s (suc (2 * i)) 0 }
+
+filled-row : (k : ℕ) (l : List Row) (i : ℕ) → i < k → pairAt (filled k l) i ≡ getD l i noRow
+unfolding filled
+filled-row zero l i h = absurd (omega arith)
+filled-row (suc k) [] zero h = refl
+filled-row (suc k) (r ∷ l) zero h = refl
+filled-row (suc k) [] (suc i) h =
+    let two : 2 * suc i ≡ suc (suc (2 * i)) = omega arith in
+    rw two (filled-row k [] i (omega arith))
+filled-row (suc k) (r ∷ l) (suc i) h =
+    let two : 2 * suc i ≡ suc (suc (2 * i)) = omega arith in
+    rw two (filled-row k l i (omega arith))
+
+module _ (mode : Mode) (ms : List Mention) (k budget N : ℕ) where
+  -- "Each query fills exactly 3 + 2k numbers"
+  pub answer-length : length (answerOf mode ms k budget N) ≡ 3 + 2 * k
+  unfolding answerOf
+  answer-length = omega (arith, filled-length k (ranked mode ms (placeOf mode ms k budget N)))
+
+  -- the answer from its place and its rows alone, as a walk has them in the end
+  pub answer-is : answerOf mode ms k budget N ≡ placeOf mode ms k budget N ∷ length (rowsAt mode ms k (placeOf mode ms k budget N)) ∷ spent (costAt mode ms k) (placeOf mode ms k budget N) ∷ filled k (rowsAt mode ms k (placeOf mode ms k budget N))
+  unfolding answerOf
+  answer-is = rw (length-take k (ranked mode ms (placeOf mode ms k budget N)), filled-take k (ranked mode ms (placeOf mode ms k budget N)))
+
+  -- its numbers
+  pub answer-place : placeIn (answerOf mode ms k budget N) ≡ placeOf mode ms k budget N
+  unfolding answerOf
+  answer-place = refl
+
+  pub answer-found : foundIn (answerOf mode ms k budget N) ≡ length (rowsAt mode ms k (placeOf mode ms k budget N))
+  answer-found = ap foundIn answer-is
+
+  pub answer-scored : scoredIn (answerOf mode ms k budget N) ≡ spent (costAt mode ms k) (placeOf mode ms k budget N)
+  unfolding answerOf
+  answer-scored = refl
+
+  pub answer-row : (i : ℕ) → i < k → rowIn (answerOf mode ms k budget N) i ≡ getD (rowsAt mode ms k (placeOf mode ms k budget N)) i noRow
+  unfolding answerOf
+  answer-row i h =
+      let l = ranked mode ms (placeOf mode ms k budget N) in
+      let three : 3 + 2 * i ≡ suc (suc (suc (2 * i))) = omega arith in
+      let four : 4 + 2 * i ≡ suc (suc (suc (suc (2 * i)))) = omega arith in
+      rw (three, four) (filled-row k l i h ∙ sym (getD-take k l i noRow h))
+
+  -- "then zeros up to k rows"
+  pub answer-zeros : (i : ℕ) → i < k → foundIn (answerOf mode ms k budget N) ≤ i → rowIn (answerOf mode ms k budget N) i ≡ noRow
+  answer-zeros i h past =
+      answer-row i h ∙ List·getD-eq-default (rowsAt mode ms k (placeOf mode ms k budget N)) noRow {n = i} (omega (arith, answer-found))
