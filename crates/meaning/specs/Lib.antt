@@ -24,5 +24,7 @@ pub mod PruneLaws
 pub mod VisitLaws
 pub mod PlaceLaws
 pub mod WalkLaws
+pub mod PostingsLaws
 pub mod AnswerLaws
 pub mod BestLaws
+pub mod BudgetLaws

@@ -11,7 +11,7 @@ use Rattle.meaning.specs.declared.Mode.{Mode}
 use Rattle.meaning.specs.declared.Mode.the-variants.{Plain, Pruned, All}
 use Rattle.meaning.specs.Score.{Mention, impactAt, score, holders, matches}
 use Rattle.meaning.specs.Rank.{insert, ranked, bar}
-use Rattle.meaning.specs.Cost.{ordered, P, aside, Tally, visitAt, cost}
+use Rattle.meaning.specs.Cost.{ordered, P, aside, Tally, visitAt}
 use Rattle.meaning.specs.Place.{spent, stops}
 use Rattle.meaning.specs.Answer.{costAt}
 use Rattle.meaning.specs.ScoreLaws.{Capped, Weighty, score-none}
@@ -19,7 +19,7 @@ use Rattle.meaning.specs.OrderLaws.{ordered-length, ordered-score, order
 use Rattle.meaning.specs.TableLaws.{ranked-unmatched, keep-low, enter, bar-same}
 use Rattle.meaning.specs.AsideLaws.{aside-low, unvisited-low}
 use Rattle.meaning.specs.PruneLaws.{visit-low, visit-high}
-use Rattle.meaning.specs.VisitLaws.{visits, visits-cost, BySome, some-matches}
+use Rattle.meaning.specs.VisitLaws.{visits, visits-free, BySome, some-matches}
 use Rattle.meaning.specs.PlaceLaws.{spent-stays, free-goes}
 
 -- what the query's mentions have, from an accepted image and sheet
@@ -35,7 +35,7 @@ module _ (mode : Mode) (ms : List Mention) (fit : Fit ms) (k : ℕ) where
   -- an unvisited document costs nothing
   pub skip-free : (d : ℕ) → visits mode ms (bar mode ms k d) d ≡ false → costAt mode ms k d ≡ 0
   unfolding costAt
-  skip-free d e = omega (arith, ltb-false 0 (cost mode ms (bar mode ms k d) d) (visits-cost mode ms (fit .some) (bar mode ms k d) d ∙ e))
+  skip-free d e = visits-free mode ms (fit .some) (bar mode ms k d) d e
 
   -- and leaves the table as it was
   pub skip-keeps : (d : ℕ) → visits mode ms (bar mode ms k d) d ≡ false → take k (ranked mode ms (suc d)) ≡ take k (ranked mode ms d)
