@@ -11,7 +11,6 @@ pub mod Answer
 pub mod Call
 pub mod Examples
 pub mod Worked
-pub mod ShortCost
 pub mod BitsLaws
 pub mod JudgedLaws
 pub mod ImageFits
@@ -23,7 +22,17 @@ pub mod IndexLaws
 pub mod FillLaws
 pub mod SheetFits
 pub mod SheetLaws
+pub mod ScoreLaws
+pub mod OrderLaws
 pub mod RankLaws
-pub mod PlaceLaws
+pub mod InsertLaws
+pub mod TableLaws
+pub mod AsideLaws
 pub mod PruneLaws
+pub mod VisitLaws
+pub mod PlaceLaws
+pub mod WalkLaws
+pub mod PostingsLaws
 pub mod AnswerLaws
+pub mod BestLaws
+pub mod BudgetLaws
