@@ -6,7 +6,6 @@ use Prim.Native.Nat.{ℕ, zero, suc, _+_, _-_, _≤_, _<_}
 use native.Mathlib.Omega.{arith}
 use lib.Dec.{ltb, eqb}
 use lib.ListN.{length, take}
-use lib.Seq.{getD-take, take-take}
 use borrow.Author.Tests.{ltb-true, ltb-false, eqb-true, eqb-false, lt-ltb, le-ltb}
 use Rattle.lists.specs.Tests.{by-test}
 use Rattle.meaning.specs.declared.Mode.{Mode}
@@ -16,30 +15,12 @@ use Rattle.meaning.specs.Rank.{insert, ranked, rowOf, noRow, kth, bar}
 use Rattle.meaning.specs.Cost.{Tally, cost}
 use Rattle.meaning.specs.Place.{spent, stops, first, place}
 use Rattle.meaning.specs.Answer.{costAt, placeOf}
-use Rattle.meaning.specs.RankLaws.{take-insert, insertK}
+use Rattle.meaning.specs.TableLaws.{bar-table}
+use Rattle.meaning.specs.PlaceLaws.{free-goes, fits-goes, dear-stops}
 use Rattle.runs.specs.declared.Turn.{Turn}
 use Rattle.runs.specs.declared.Turn.the-variants.{Finished, Stopped, Entered}
 use Rattle.runs.specs.Run.{Run, runFrom}
 use Rattle.runs.specs.RunLaws.{run-skip, run-stop, run-enter, run-on, run-end}
-
-kth-take : (k : ℕ) (l : List Row) → kth k (take k l) ≡ kth k l
-unfolding kth
-kth-take zero l = refl
-kth-take (suc k) l = ap (λ (r : Row). r .score) (getD-take (suc k) l k noRow (omega arith))
-
-stops-visited : (c : ℕ → ℕ) (q budget d : ℕ) → 0 < c d → stops c q budget d ≡ ltb budget (spent c d + q)
-unfolding stops
-stops-visited c q budget d h = rw (lt-ltb 0 (c d) h)
-
-stops-free : (c : ℕ → ℕ) (q budget d : ℕ) → c d ≡ 0 → stops c q budget d ≡ false
-unfolding stops
-stops-free c q budget d h = rw h
-
-enter : (mode : Mode) (ms : List Mention) (k d : ℕ) → matches mode ms d ≡ true → take k (insert (rowOf ms d) (take k (ranked mode ms d))) ≡ take k (ranked mode ms (suc d))
-unfolding ranked
-enter mode ms k d e =
-    let l = ranked mode ms d in
-    rw e (take-insert k (rowOf ms d) (take k l) ∙ ap (insertK k (rowOf ms d)) (take-take k k l (omega arith)) ∙ sym (take-insert k (rowOf ms d) l))
 
 module _ (mode : Mode) (ms : List Mention) (k budget : ℕ) where
   -- every document below d is done: none stopped the query, their costs are counted, and the table has the best k of them
@@ -53,7 +34,8 @@ module _ (mode : Mode) (ms : List Mention) (k budget : ℕ) where
     pub costs : (d : ℕ) → cost mode ms b d ≡ v d .count
     pub rests : (d : ℕ) → v d .count ≡ 0 → v d .sum ≡ 0
     pub keeps : (d : ℕ) → bar mode ms k d ≡ b → v d .sum ≤ b → take k (ranked mode ms (suc d)) ≡ take k (ranked mode ms d)
-    pub enters : (d : ℕ) → b < v d .sum → (matches mode ms d ≡ true) × (v d .sum ≡ score ms d)
+    pub enters : (d : ℕ) → bar mode ms k d ≡ b → b < v d .sum →
+        take k (ranked mode ms (suc d)) ≡ take k (insert (record { doc = d; score = v d .sum }) (take k (ranked mode ms d)))
 
   -- what the end of a run says, with the table as it was before it
   abbrev pub EndedBy : ℕ → List Row → Turn → ℕ → ℕ → ℕ → Type 0
@@ -66,8 +48,7 @@ module _ (mode : Mode) (ms : List Mention) (k budget : ℕ) where
 
   module _ (N b : ℕ) (v : ℕ → Tally) (visits : Visits b v) where
     reached-bar : (d count : ℕ) (rows : List Row) → Reached d count rows → kth k rows ≡ b → bar mode ms k d ≡ b
-    unfolding bar
-    reached-bar d count rows r e = sym (kth-take k (ranked mode ms d)) ∙ ap (kth k) (sym (r .ranks)) ∙ e
+    reached-bar d count rows r e = sym (bar-table mode ms k d) ∙ ap (kth k) (sym (r .ranks)) ∙ e
 
     -- what d costs, where the walk has reached it
     cost-here : (d count : ℕ) (rows : List Row) → Reached d count rows → kth k rows ≡ b → costAt mode ms k d ≡ v d .count
@@ -94,13 +75,13 @@ module _ (mode : Mode) (ms : List Mention) (k budget : ℕ) where
         (λ t. passed (eqb-true (v d .count) 0 t) (run-keeps n (suc d) count rows))
         (λ t. let some : 0 < v d .count = omega (arith, eqb-false (v d .count) 0 t) in
         by-test (ltb budget (count + length ms))
-        (λ u. subst (Ended N rows) (sym (run-stop v b (length ms) budget d count n some (ltb-true budget (count + length ms) u))) (omega arith, test some ∙ u, r))
+        (λ u. subst (Ended N rows) (sym (run-stop v b (length ms) budget d count n some (ltb-true budget (count + length ms) u))) (omega arith, stopped some (ltb-true budget (count + length ms) u), r))
         (λ u. let fits = ltb-false budget (count + length ms) u in
         by-test (ltb b (v d .sum))
         (λ w. let up = ltb-true b (v d .sum) w in
-        subst (Ended N rows) (sym (run-enter v b (length ms) budget d count n some fits up)) (omega arith, further d count rows r c (test some ∙ u) _ (entered up)))
+        subst (Ended N rows) (sym (run-enter v b (length ms) budget d count n some fits up)) (omega arith, further d count rows r c (going fits) _ (entered up)))
         (λ w. let low = ltb-false b (v d .sum) w in
-        subst (Ended N rows) (sym (run-on v b (length ms) budget d count n some fits low)) (run-keeps n (suc d) (count + v d .count) rows (further d count rows r c (test some ∙ u) rows (kept low)) e (omega arith)))))
+        subst (Ended N rows) (sym (run-on v b (length ms) budget d count n some fits low)) (run-keeps n (suc d) (count + v d .count) rows (further d count rows r c (going fits) rows (kept low)) e (omega arith)))))
       where
         c : costAt mode ms k d ≡ v d .count
         c = cost-here d count rows r e
@@ -109,15 +90,16 @@ module _ (mode : Mode) (ms : List Mention) (k budget : ℕ) where
         kept low = r .ranks ∙ sym (visits .keeps d (reached-bar d count rows r e) low)
 
         entered : b < v d .sum → take k (insert (record { doc = d; score = v d .sum }) rows) ≡ take k (ranked mode ms (suc d))
-        entered up =
-            let x = visits .enters d up in
-            rw (r .ranks, x .1) (enter mode ms k d (x .0))
+        entered up = rw (r .ranks) (sym (visits .enters d (reached-bar d count rows r e) up))
 
-        test : 0 < v d .count → stops (costAt mode ms k) (length ms) budget d ≡ ltb budget (count + length ms)
-        test some = stops-visited (costAt mode ms k) (length ms) budget d (omega (arith, c)) ∙ ap (λ (x : ℕ). ltb budget (x + length ms)) (sym (r .counted))
+        stopped : 0 < v d .count → budget < count + length ms → stops (costAt mode ms k) (length ms) budget d ≡ true
+        stopped some h = dear-stops (costAt mode ms k) (length ms) budget d (omega (arith, c)) (omega (arith, r .counted))
+
+        going : count + length ms ≤ budget → stops (costAt mode ms k) (length ms) budget d ≡ false
+        going h = fits-goes (costAt mode ms k) (length ms) budget d (omega (arith, r .counted))
 
         passed : v d .count ≡ 0 → (Reached (suc d) count rows → kth k rows ≡ b → suc d + n ≡ N → Ended N rows (runFrom v b (length ms) budget (suc d) count n)) → Ended N rows (runFrom v b (length ms) budget d count (suc n))
         passed none next =
             let same : count + v d .count ≡ count = omega arith in
-            let there = further d count rows r c (stops-free (costAt mode ms k) (length ms) budget d (c ∙ none)) rows (kept (omega (arith, visits .rests d none))) in
+            let there = further d count rows r c (free-goes (costAt mode ms k) (length ms) budget d (c ∙ none)) rows (kept (omega (arith, visits .rests d none))) in
             subst (Ended N rows) (sym (run-skip v b (length ms) budget d count n none)) (next (subst (λ (x : ℕ). Reached (suc d) x rows) same there) e (omega arith))
