@@ -20,6 +20,8 @@ pub mod ImageLaws
 pub mod TermLaws
 pub mod IndexLaws
 pub mod FillLaws
+pub mod RefusalLaws
+pub mod FaultLaws
 pub mod SheetFits
 pub mod SheetLaws
 pub mod ScoreLaws

@@ -17,7 +17,7 @@ use Rattle.meaning.specs.JudgedLaws.{bind-good, need-good, good-same}
 use Rattle.meaning.specs.Sheet.{Pair, Query, within, modeOf, numberOf, pairsAt, queryAt, queriesAt, sheetOf}
 use Rattle.meaning.specs.SheetFits.{Within, PairFits, PairsFit, QueryFits, QueriesFit, SheetFits}
 
-within-true : (low high n : ℕ) → within low high n ≡ true → Within low high n
+pub within-true : (low high n : ℕ) → within low high n ≡ true → Within low high n
 within-true low high n e = let b = both-true (leb low n) (leb n high) e in (leb-true low n (b .0), leb-true n high (b .1))
 
 true-within : (low high n : ℕ) → Within low high n → within low high n ≡ true
