@@ -20,10 +20,12 @@ pub mod ImageLaws
 pub mod TermLaws
 pub mod IndexLaws
 pub mod FillLaws
-pub mod RefusalLaws
-pub mod FaultLaws
 pub mod SheetFits
 pub mod SheetLaws
+pub mod RefusalLaws
+pub mod FaultLaws
+pub mod CallLaws
+pub mod OnlyLaws
 pub mod ScoreLaws
 pub mod OrderLaws
 pub mod RankLaws

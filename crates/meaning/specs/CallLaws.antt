@@ -1,0 +1,130 @@
+-- What a call says and what it leaves in the answer row: done exactly when no row of the table holds, each query's stretch after the one before.
+use mathlib.Core.Path.{_≡_, refl, sym, ap, _∙_}
+use mathlib.Core.Bool.{Bool, true, false}
+use mathlib.Core.List.{List, [], _∷_, _++_, append-assoc}
+use mathlib.Core.Logic.{_↔_}
+use Prim.Native.Nat.{ℕ, zero, suc, _+_, _*_, _-_, _≤_, _<_}
+use native.Mathlib.Omega.{arith}
+use lib.Dec.{leb}
+use lib.ListN.{length, getD, take, drop, length-append, length-drop}
+use lib.Seq.{take-at, drop-at, drop-append-add}
+use borrow.Author.Tests.{leb-true, le-leb}
+use Rattle.meaning.specs.declared.Row.{Row}
+use Rattle.meaning.specs.Judged.{Judged, good, bad, _>>=_, need}
+use Rattle.meaning.specs.JudgedLaws.{bind-good, need-good, good-same}
+use Rattle.meaning.specs.Image.{Index, imageOf}
+use Rattle.meaning.specs.Sheet.{Query, sheetOf}
+use Rattle.meaning.specs.Answer.{filled, answerOf, answer}
+use Rattle.meaning.specs.Call.{answers, needed, judged, Called, ending, call}
+use Rattle.meaning.specs.ImageFits.{ImageFits}
+use Rattle.meaning.specs.SheetFits.{SheetFits}
+use Rattle.meaning.specs.AcceptLaws.{image-good, fit-image}
+use Rattle.meaning.specs.SheetLaws.{sheet-good, fit-sheet}
+
+-- "then document and score for each row, then zeros up to k rows"
+filled-length : (k : ℕ) (rows : List Row) → length (filled k rows) ≡ 2 * k
+unfolding filled
+filled-length zero rows = refl
+filled-length (suc k) [] = omega (arith, filled-length k [])
+filled-length (suc k) (r ∷ rows) = omega (arith, filled-length k rows)
+
+-- "Each query fills exactly 3 + 2k numbers"
+pub answer-length : (ix : Index) (q : Query) → length (answer ix q) ≡ 3 + 2 * q .k
+unfolding answer answerOf
+answer-length ix q = simp filled-length (omega arith)
+
+pub answers-length : (ix : Index) (qs : List Query) → length (answers ix qs) ≡ needed qs
+unfolding answers needed
+answers-length ix [] = refl
+answers-length ix (q ∷ qs) = length-append (answer ix q) (answers ix qs) ∙ omega (arith, answer-length ix q, answers-length ix qs)
+
+-- "its own stretch of the answer row, which starts where the previous one ended"
+stretches : (ix : Index) (qs : List Query) (rest : List ℕ) (i : ℕ) → i < length qs → (d : Query) →
+    take (3 + 2 * getD qs i d .k) (drop (needed (take i qs)) (answers ix qs ++ rest)) ≡ answer ix (getD qs i d)
+unfolding answers needed
+stretches ix [] rest i h d = absurd (omega arith)
+stretches ix (q ∷ qs) rest zero h d = rw (append-assoc (answer ix q) (answers ix qs) rest, take-at (answer ix q) (answers ix qs ++ rest) _ (answer-length ix q))
+stretches ix (q ∷ qs) rest (suc i) h d =
+    rw (append-assoc (answer ix q) (answers ix qs) rest, ← answer-length ix q, drop-append-add (answer ix q) (answers ix qs ++ rest) (needed (take i qs)))
+    (stretches ix qs rest i (omega arith) d)
+
+-- what a call says, from what judging says
+said-good : (m : Judged (List ℕ)) (row : List ℕ) {c : ℕ} → ending m row .said ≡ good c → (a : List ℕ) × (m ≡ good a) × (length a ≡ c)
+unfolding ending
+said-good (bad n p) row e = absurd (let z : _≡_ {A = ℕ} 0 1 = cc in omega arith)
+said-good (good a) row e = (a, refl, cc)
+
+said-bad : (m : Judged (List ℕ)) (row : List ℕ) {n p : ℕ} → ending m row .said ≡ bad n p → m ≡ bad n p
+unfolding ending
+said-bad (bad n p) row e = cc
+said-bad (good a) row e = absurd (let z : _≡_ {A = ℕ} 0 1 = cc in omega arith)
+
+-- a call that is done: no row of the table holds
+pub record Fits (image sheet row : List ℕ) (count : ℕ) : Type 0 where
+  pub index : Index
+  pub queries : List Query
+  pub image-fits : ImageFits image index
+  pub sheet-fits : SheetFits sheet (length (index .terms)) queries
+  -- 15: "answer row too short"
+  pub room : needed queries ≤ length row
+  pub sum : count ≡ needed queries
+
+module _ (image sheet row : List ℕ) where
+  -- a refusal is what judging says
+  pub refused-same : (n p : ℕ) → (call image sheet row .said ≡ bad n p) ↔ (judged image sheet row ≡ bad n p)
+  unfolding call ending
+  refused-same n p = (said-bad (judged image sheet row) row, λ e. rw e)
+
+  -- "A refusal writes nothing."
+  pub refused-stays : (n p : ℕ) → call image sheet row .said ≡ bad n p → call image sheet row .row ≡ row
+  unfolding call ending
+  refused-stays n p e = rw (said-bad (judged image sheet row) row e)
+
+  -- the whole of what a call that is done comes to
+  pub done-is : {count : ℕ} (f : Fits image sheet row count) → call image sheet row ≡ record { said = good count; row = answers (f .index) (f .queries) ++ drop count row }
+  unfolding call ending judged
+  done-is f =
+      let n = answers-length (f .index) (f .queries) ∙ sym (f .sum) in
+      rw (fit-image image (f .index) (f .image-fits), fit-sheet sheet (length (f .index .terms)) (f .queries) (f .sheet-fits), le-leb (needed (f .queries)) (length row) (f .room), n)
+
+  done-fits : (count : ℕ) → call image sheet row .said ≡ good count → Fits image sheet row count
+  unfolding call judged
+  done-fits count e =
+      let a = said-good (judged image sheet row) row e in
+      let x = bind-good (imageOf image) _ (a .1) in
+      let y = bind-good (sheetOf sheet (length (x .0 .terms))) _ (x .2) in
+      let z = need-good (leb (needed (y .0)) (length row)) 15 (needed (y .0)) _ (y .2) in
+      let same = good-same (z .1) in
+      record {
+        index = x .0;
+        queries = y .0;
+        image-fits = image-good image (x .0) (x .1);
+        sheet-fits = sheet-good sheet (length (x .0 .terms)) (y .0) (y .1);
+        room = leb-true _ _ (z .0);
+        sum = sym (a .2) ∙ (ap (λ (l : List ℕ). length l) (sym same) ∙ answers-length (x .0) (y .0));
+      }
+
+  -- "none is given otherwise": a call is done exactly when no row of the table holds, and its count is the sum of 3 + 2k over its queries
+  pub done-exactly : (count : ℕ) → (call image sheet row .said ≡ good count) ↔ Fits image sheet row count
+  done-exactly count = (done-fits count, λ f. ap (λ (c : Called). c .said) (done-is f))
+
+  -- "Numbers past the last stretch stay."
+  pub past-stays : (count : ℕ) → call image sheet row .said ≡ good count → drop count (call image sheet row .row) ≡ drop count row
+  past-stays count e =
+      let f = done-fits count e in
+      rw (done-is f) (drop-at (answers (f .index) (f .queries)) (drop count row) count (answers-length (f .index) (f .queries) ∙ sym (f .sum)))
+
+  -- the answer row keeps its length
+  pub length-stays : length (call image sheet row .row) ≡ length row
+  length-stays = by-said (call image sheet row .said) refl
+    where
+      by-said : (m : Judged ℕ) → call image sheet row .said ≡ m → length (call image sheet row .row) ≡ length row
+      by-said (bad n p) e = ap (λ (l : List ℕ). length l) (refused-stays n p e)
+      by-said (good count) e =
+          let f = done-fits count e in
+          rw (done-is f) (simp (length-append, length-drop) (omega (arith, answers-length (f .index) (f .queries), f .sum, f .room)))
+
+  -- "Each query writes only into its own stretch of the answer row, which starts where the previous one ended."
+  pub stretch-at : {count : ℕ} (f : Fits image sheet row count) (i : ℕ) → i < length (f .queries) → (d : Query) →
+      take (3 + 2 * getD (f .queries) i d .k) (drop (needed (take i (f .queries))) (call image sheet row .row)) ≡ answer (f .index) (getD (f .queries) i d)
+  stretch-at {count} f i h d = rw (done-is f) (stretches (f .index) (f .queries) (drop count row) i h d)
