@@ -36,3 +36,5 @@ pub mod PostingsLaws
 pub mod AnswerLaws
 pub mod BestLaws
 pub mod BudgetLaws
+pub mod LosslessLaws
+pub mod WordLaws
