@@ -23,7 +23,7 @@ pub mod FillLaws
 pub mod SheetFits
 pub mod SheetLaws
 pub mod ScoreLaws
-pub mod OrderLaws
+pub mod OrderedLaws
 pub mod RankLaws
 pub mod InsertLaws
 pub mod TableLaws

@@ -13,7 +13,7 @@ use Rattle.meaning.specs.Rank.{ranked, noRow, bar}
 use Rattle.meaning.specs.Cost.{ordered, P, cost}
 use Rattle.meaning.specs.Place.{spent}
 use Rattle.meaning.specs.Answer.{costAt, placeOf, answerOf}
-use Rattle.meaning.specs.OrderLaws.{ordered-score, ordered-capped}
+use Rattle.meaning.specs.OrderedLaws.{ordered-score, ordered-capped}
 use Rattle.meaning.specs.TableLaws.{same-ranked, keep-low}
 use Rattle.meaning.specs.AsideLaws.{dropped-low}
 use Rattle.meaning.specs.VisitLaws.{visits, cost-held}

@@ -15,7 +15,7 @@ use Rattle.meaning.specs.Cost.{ordered, P, aside, Tally, visitAt}
 use Rattle.meaning.specs.Place.{spent, stops}
 use Rattle.meaning.specs.Answer.{costAt}
 use Rattle.meaning.specs.ScoreLaws.{Capped, Weighty, score-none}
-use Rattle.meaning.specs.OrderLaws.{ordered-length, ordered-score, ordered-capped}
+use Rattle.meaning.specs.OrderedLaws.{ordered-length, ordered-score, ordered-capped}
 use Rattle.meaning.specs.TableLaws.{ranked-unmatched, keep-low, enter, bar-same}
 use Rattle.meaning.specs.AsideLaws.{aside-low, unvisited-low}
 use Rattle.meaning.specs.PruneLaws.{visit-low, visit-high}
