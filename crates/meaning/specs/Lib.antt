@@ -38,3 +38,4 @@ pub mod BestLaws
 pub mod BudgetLaws
 pub mod LosslessLaws
 pub mod WordLaws
+pub mod MentionLaws
