@@ -47,7 +47,7 @@ module _ (mode : Mode) (ms : List Mention) where
       let same : d ≡ p = omega arith in
       rw (same, ranked-match mode ms p (ap (matches mode ms) (sym same) ∙ m)) (insert-has (rowOf ms p) (ranked mode ms p)))
 
-  abbrev True : Row → Type 0
+  abbrev pub True : Row → Type 0
   True r = (matches mode ms (r .doc) ≡ true) × (r .score ≡ score ms (r .doc))
 
   pub ranked-true : (p : ℕ) → Each True (ranked mode ms p)

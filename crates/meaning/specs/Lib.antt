@@ -27,7 +27,7 @@ pub mod FaultLaws
 pub mod CallLaws
 pub mod OnlyLaws
 pub mod ScoreLaws
-pub mod OrderLaws
+pub mod OrderedLaws
 pub mod RankLaws
 pub mod InsertLaws
 pub mod TableLaws
@@ -40,3 +40,6 @@ pub mod PostingsLaws
 pub mod AnswerLaws
 pub mod BestLaws
 pub mod BudgetLaws
+pub mod LosslessLaws
+pub mod WordLaws
+pub mod MentionLaws

@@ -13,7 +13,7 @@ use Rattle.meaning.specs.declared.Mode.the-variants.{Plain, Pruned, All}
 use Rattle.meaning.specs.Score.{Mention, holders, matches}
 use Rattle.meaning.specs.Cost.{ordered, aside, Tally, visitAt, cost}
 use Rattle.meaning.specs.ScoreLaws.{holders-le}
-use Rattle.meaning.specs.OrderLaws.{ordered-holders}
+use Rattle.meaning.specs.OrderedLaws.{ordered-holders}
 use Rattle.meaning.specs.AsideLaws.{aside-le}
 use Rattle.meaning.specs.PruneLaws.{unvisited, visit-all, visit-some, visit-count}
 

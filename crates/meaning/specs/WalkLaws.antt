@@ -9,13 +9,13 @@ use borrow.Author.Tests.{ltb-false}
 use Rattle.lists.specs.Tests.{by-test, by-order, by-zero}
 use Rattle.meaning.specs.declared.Mode.{Mode}
 use Rattle.meaning.specs.declared.Mode.the-variants.{Plain, Pruned, All}
-use Rattle.meaning.specs.Score.{Mention, impactAt, score, holders, matches}
+use Rattle.meaning.specs.Score.{Mention, score, holders, matches}
 use Rattle.meaning.specs.Rank.{insert, ranked, bar}
 use Rattle.meaning.specs.Cost.{ordered, P, aside, Tally, visitAt}
 use Rattle.meaning.specs.Place.{spent, stops}
 use Rattle.meaning.specs.Answer.{costAt}
 use Rattle.meaning.specs.ScoreLaws.{Capped, Weighty, score-none}
-use Rattle.meaning.specs.OrderLaws.{ordered-length, ordered-score, ordered-each}
+use Rattle.meaning.specs.OrderedLaws.{ordered-length, ordered-score, ordered-capped}
 use Rattle.meaning.specs.TableLaws.{ranked-unmatched, keep-low, enter, bar-same}
 use Rattle.meaning.specs.AsideLaws.{aside-low, unvisited-low}
 use Rattle.meaning.specs.PruneLaws.{visit-low, visit-high}
@@ -28,8 +28,20 @@ pub record Fit (ms : List Mention) : Type 0 where
   pub capped : Capped ms
   pub weighty : Weighty ms
 
-capped-ordered : (ms : List Mention) → Capped ms → Capped (ordered ms)
-capped-ordered = ordered-each (λ (m : Mention). (d : ℕ) → impactAt (m .postings) d ≤ m .largest)
+-- in mode 1 a document that is not visited is not above the bar
+pub pruned-low : (ms : List Mention) → Capped ms → (b d : ℕ) → visits Pruned ms b d ≡ false → score ms d ≤ b
+unfolding visits
+pruned-low ms c b d e =
+    let os = ordered ms in
+    let none : holders (drop (aside os b) os) d ≡ 0 = omega (arith, ltb-false 0 (holders (drop (aside os b) os) d) e) in
+    omega (arith, ordered-score d ms, unvisited-low os b d (aside os b) (ordered-capped ms c) none (aside-low os b))
+
+-- in the others it does not match
+skip-low : (mode : Mode) (ms : List Mention) → Capped ms → (b d : ℕ) → matches mode ms d ≡ true → visits mode ms b d ≡ false → score ms d ≤ b
+unfolding visits
+skip-low Plain ms c b d m e = absurd (true≢false (sym m ∙ e))
+skip-low Pruned ms c b d m e = pruned-low ms c b d e
+skip-low All ms c b d m e = absurd (true≢false (sym m ∙ e))
 
 module _ (mode : Mode) (ms : List Mention) (fit : Fit ms) (k : ℕ) where
   -- an unvisited document costs nothing
@@ -39,17 +51,8 @@ module _ (mode : Mode) (ms : List Mention) (fit : Fit ms) (k : ℕ) where
 
   -- and leaves the table as it was
   pub skip-keeps : (d : ℕ) → visits mode ms (bar mode ms k d) d ≡ false → take k (ranked mode ms (suc d)) ≡ take k (ranked mode ms d)
-  unfolding visits
-  skip-keeps d e = by-test (matches mode ms d) (λ m. keep-low mode ms k d (fit .weighty) (fit .some) (low mode m e)) (λ m. ap (take k) (ranked-unmatched mode ms d m))
-    where
-      low : (mode : Mode) → matches mode ms d ≡ true → visits mode ms (bar mode ms k d) d ≡ false → score ms d ≤ bar mode ms k d
-      low Plain m e = absurd (true≢false (sym m ∙ e))
-      low Pruned m e =
-          let os = ordered ms in
-          let b = bar Pruned ms k d in
-          let none : holders (drop (aside os b) os) d ≡ 0 = omega (arith, ltb-false 0 (holders (drop (aside os b) os) d) e) in
-          omega (arith, ordered-score d ms, unvisited-low os b d (aside os b) (capped-ordered ms (fit .capped)) none (aside-low os b))
-      low All m e = absurd (true≢false (sym m ∙ e))
+  skip-keeps d e =
+      by-test (matches mode ms d) (λ m. keep-low mode ms k d (fit .weighty) (fit .some) (skip-low mode ms (fit .capped) (bar mode ms k d) d m e)) (λ m. ap (take k) (ranked-unmatched mode ms d m))
 
   -- what documents from p up to d leave as it was, where none of them is visited at the bar at p
   pub record Quiet (p d : ℕ) : Type 0 where
@@ -88,7 +91,7 @@ module _ (ms : List Mention) (fit : Fit ms) (k d j : ℕ) (rank : j ≤ length m
   visit-keeps mode low h =
       let os = ordered ms in
       let b = bar mode ms k d in
-      keep-low mode ms k d (fit .weighty) (fit .some) (omega (arith, ordered-score d ms, visit-low os b d j (omega (arith, ordered-length ms)) (capped-ordered ms (fit .capped)) low h))
+      keep-low mode ms k d (fit .weighty) (fit .some) (omega (arith, ordered-score d ms, visit-low os b d j (omega (arith, ordered-length ms)) (ordered-capped ms (fit .capped)) low h))
 
   -- and one whose sum is above it enters with that sum, which is the whole score
   pub visit-enters : (mode : Mode) → BySome mode → bar mode ms k d < visitAt (ordered ms) (bar mode ms k d) j d .sum →
