@@ -1,0 +1,4 @@
+pub mod Verdict
+pub mod Extent
+pub mod Record
+pub mod QueryLaws
