@@ -1,0 +1,2 @@
+pub mod BitsSplit
+pub mod Windows
