@@ -1,2 +1,3 @@
 pub mod BitsSplit
 pub mod Windows
+pub mod LayoutLaws

@@ -44,7 +44,11 @@ fn word_end(part: &[u8]) -> u64
 fn window(part: &[u8]) -> u64
     ensures { λ r. ⌜ r ≡ bitsAt (now (part .entry)) 0 64 ⌝ }
 {
-    if 8 <= part.len() { word(part) } else { word_end(part) }
+    if 8 <= part.len() {
+        word(part)
+    } else {
+        word_end(part)
+    }
 }
 
 // The n bits from bit `shift` of a part on.
