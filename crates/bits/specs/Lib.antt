@@ -1,0 +1,4 @@
+pub mod BitsSplit
+pub mod Windows
+pub mod LayoutLaws
+pub mod Parts

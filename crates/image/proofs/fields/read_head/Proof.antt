@@ -1,0 +1,20 @@
+-- A head, out of its one field.
+use mathlib.Core.Path.{sym}
+use borrow.Author.Needs.{needs}
+use Rattle.bits.specs.LayoutLaws.{head-is}
+use Rattle.image.proofs.fields.read_head.Statement.{statement}
+use Rattle.image.proofs.fields.read_head.Tie as tie
+
+field-requires : tie.Need-field-requires
+field-requires c κs = search needs
+
+add-t6 : tie.Need-add-t6
+add-t6 c = search needs
+
+returns : tie.Need-returns
+returns c =
+    let s = c .before .before in
+    sym (head-is (s .args .part .now) (s .args .shift) (c .field .result) (c .field .ensures))
+
+pub read-head-spec : {M : Type 1} → statement M
+read-head-spec = tie.close (tie.spec field-requires add-t6 returns)

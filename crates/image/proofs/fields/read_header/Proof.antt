@@ -1,0 +1,15 @@
+-- The header, out of its one word.
+use mathlib.Core.Path.{sym}
+use borrow.Author.Needs.{needs}
+use Rattle.bits.specs.LayoutLaws.{header-is}
+use Rattle.image.proofs.fields.read_header.Statement.{statement}
+use Rattle.image.proofs.fields.read_header.Tie as tie
+
+word-requires : tie.Need-word-requires
+word-requires c κs = search needs
+
+returns : tie.Need-returns
+returns c = sym (header-is (c .before .before .args .image .now) (c .word .result) (c .word .ensures))
+
+pub read-header-spec : {M : Type 1} → statement M
+read-header-spec = tie.close (tie.spec word-requires returns)

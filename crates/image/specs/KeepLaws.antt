@@ -1,0 +1,20 @@
+-- Laws of what is kept of a reading.
+use mathlib.Core.Path.{_≡_, refl, ap}
+use mathlib.Core.Bool.{Bool, true, false}
+use Prim.Native.Nat.{ℕ}
+use Rattle.meaning.specs.Judged.{Judged, good, bad, _>>=_, need}
+use Rattle.image.specs.Answers.{keep}
+
+pub keep-same : {A B : Type 0} (m : Judged A) (f g : A → B) → ((a : A) → f a ≡ g a) → keep f m ≡ keep g m
+keep-same (bad n p) f g h = refl
+keep-same (good a) f g h = ap good (h a)
+
+-- of a reading that goes on with h
+pub keep-then : {A B C : Type 0} (m : Judged A) (h : A → B) (f : B → C) → keep f (m >>= λ a. good (h a)) ≡ keep (λ a. f (h a)) m
+keep-then (bad n p) h f = refl
+keep-then (good a) h f = refl
+
+-- of a test and a reading after it
+pub keep-need : {A B : Type 0} (b : Bool) (n p : ℕ) (m : Judged A) (f : A → B) → keep f (need b n p >>= λ _. m) ≡ (need b n p >>= λ _. keep f m)
+keep-need true n p m f = refl
+keep-need false n p m f = refl

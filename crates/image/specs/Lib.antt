@@ -1,0 +1,5 @@
+pub mod Fields
+pub mod Answers
+pub mod KeepLaws
+pub mod PostingLaws
+pub mod BlockLaws

@@ -1,0 +1,96 @@
+// "Each block is judged on its own part of the image, cut from the byte that holds its first bit": refusals 5, 6 and 7 of a block.
+ghost use mathlib.Core.Path.{_≡_};
+ghost use Prim.Native.Nat.{ℕ, _+_, _*_, _≤_, _<_, max};
+ghost use lib.ListN.{length};
+ghost use Rattle.meaning.specs.Image.{postingsAt, blockAt};
+ghost use Rattle.image.specs.Answers.{keep, keptOf, postingsSay, takenOf, blockSays};
+
+// What judging a block's postings says.
+pub enum Postings {
+    // refusal 6
+    Wrong,
+    // one more than the last document, and the largest impact
+    Good(u64, u64),
+}
+
+// What judging a block says.
+pub enum Block {
+    // the refusal's number
+    Wrong(u32),
+    // the bits it takes, its postings, one more than its last document, and its largest impact
+    Good(usize, usize, u64, u64),
+}
+
+pub fn larger(a: u64, b: u64) -> u64
+    ensures { λ r. ⌜ r ≡ max a b ⌝ }
+{
+    if a < b { b } else { a }
+}
+
+// The n postings with gaps of w bits from bit `start` on; `first` is the previous document plus 1.
+pub fn judge_postings(part: &[u8], docs: u64, w: usize, start: usize, first: u64, n: usize) -> Postings
+    requires { ⌜ (docs < 16777216) × (w ≤ 24) × (first ≤ docs) × (length (now part) < 16777216) × (start + n * (w + 8) ≤ 8 * length (now part)) ⌝ }
+    ensures { λ r. ⌜ ((t : ℕ) → postingsSay t r ≡ keep (keptOf first) (postingsAt (now (part .entry)) docs t w start first n)) ⌝ }
+{
+    let mut at = start;
+    let mut next = first;
+    let mut top: u64 = 0;
+    let mut left = n;
+    while 0 < left {
+        let byte = at / 8;
+        // a gap and an impact as one field
+        let x = bits::field(&part[byte..], at % 8, w + 8);
+        let doc = next + x / 256;
+        if docs <= doc {
+            return Postings::Wrong;
+        }
+        let impact = x % 256;
+        if impact == 0 {
+            return Postings::Wrong;
+        }
+        top = larger(top, impact);
+        next = doc + 1;
+        at = at + w + 8;
+        left -= 1;
+    }
+    Postings::Good(next, top)
+}
+
+// The block at bit `shift` of a part, in a list that has `left` postings left.
+pub fn judge_block(part: &[u8], docs: u64, shift: usize, next: u64, left: usize) -> Block
+    requires { ⌜ (docs < 16777216) × (shift < 8) × (next ≤ docs) × (length (now part) < 16777216) ⌝ }
+    ensures { λ r. ⌜ ((t : ℕ) → blockSays t r ≡ keep (takenOf shift next) (blockAt (now (part .entry)) docs t shift next left)) ⌝ }
+{
+    let end = 8 * part.len();
+    if end < shift + 44 {
+        return Block::Wrong(5);
+    }
+    let head = super::fields::read_head(part, shift);
+    let n = head.count;
+    let w = head.width;
+    let last = head.last;
+    let largest = head.largest;
+    if 24 < w {
+        return Block::Wrong(5);
+    }
+    if left < n {
+        return Block::Wrong(5);
+    }
+    let size = 44 + n * (w + 8);
+    if end < shift + size {
+        return Block::Wrong(5);
+    }
+    let found = judge_postings(part, docs, w, shift + 44, next, n);
+    match found {
+        Postings::Wrong => Block::Wrong(6),
+        Postings::Good(after, top) => {
+            if last + 1 != after {
+                return Block::Wrong(7);
+            }
+            if largest != top {
+                return Block::Wrong(7);
+            }
+            Block::Good(size, n, after, top)
+        }
+    }
+}

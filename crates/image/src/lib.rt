@@ -1,0 +1,3 @@
+// Judging an image.
+pub mod fields;
+pub mod block;
