@@ -1,19 +1,19 @@
 -- An image is accepted, as an index, exactly when no condition of rows 1 to 8 holds.
-use mathlib.Core.Path.{_≡_, refl, sym, ap, _∙_}
-use mathlib.Core.Bool.{Bool, true, false, cond, _&&_}
+use mathlib.Core.Path.{_≡_, refl, ap, _∙_}
+use mathlib.Core.Bool.{true, false, _&&_}
 use mathlib.Core.List.{List, [], _∷_}
 use mathlib.Core.Logic.{_↔_}
 use Prim.Native.Nat.{ℕ, zero, suc, _+_, _*_, _-_, _≤_, _<_}
 use native.Mathlib.Omega.{arith}
 use lib.Dec.{leb, eqb}
 use lib.ListN.{length}
-use borrow.Author.Tests.{leb-true, le-leb, eqb-true, eqb-false, eq-eqb, ne-eqb}
+use borrow.Author.Tests.{leb-true, le-leb, eqb-true, eqb-false, eq-eqb}
 use Rattle.lists.specs.Tests.{by-test, both-true}
-use Rattle.meaning.specs.Judged.{Judged, good, bad, _>>=_, need}
+use Rattle.meaning.specs.Judged.{good}
 use Rattle.meaning.specs.JudgedLaws.{bind-good, need-good, good-same}
 use Rattle.meaning.specs.Bits.{bitsAt}
 use Rattle.meaning.specs.Layout.{headerOf, Entry, entryAt}
-use Rattle.meaning.specs.Image.{Part, Term, Terms, Index, largestOf, blocksAt, entryFits, termsAt, imageOf}
+use Rattle.meaning.specs.Image.{Term, Terms, Index, largestOf, blocksAt, entryFits, termsAt, imageOf}
 use Rattle.meaning.specs.ImageFits.{EntryFits, joined, ListFits, TermsFit, ImageFits}
 use Rattle.meaning.specs.BlockLaws.{blocks-good, fit-blocks}
 
@@ -58,8 +58,7 @@ terms-good s N t due (suc n) r e =
     let f : ListFits s N t due (l .stop) (record { postings = l .postings; largest = e₀ .largest }) =
     record { entry = entry-good N due e₀ (a .0); blocks = g .0; fit = g .1; postings = g .2; named = refl; largest = eqb-true _ _ (c .0) } in
     let v = terms-good s N (suc t) (l .stop) n (d .0) (d .1) in
-    let same : _≡_ {A = Terms} (record { terms = record { postings = l .postings; largest = e₀ .largest } ∷ d .0 .terms; stop = d .0 .stop }) r = good-same (d .2) in
-    rw (← same) ((l .stop, f, v .0), ap suc (v .1))
+    rw (← good-same (d .2)) ((l .stop, f, v .0), ap suc (v .1))
 
 fit-terms : (s : List ℕ) (N t due stop : ℕ) (xs : List Term) → TermsFit s N t due stop xs → termsAt s N t due (length xs) ≡ good (record { terms = xs; stop = stop })
 unfolding termsAt

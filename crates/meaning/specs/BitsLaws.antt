@@ -1,11 +1,11 @@
 -- Laws of bits.
-use mathlib.Core.Path.{_≡_, refl, sym, ap, _∙_}
+use mathlib.Core.Path.{_≡_, refl}
 use mathlib.Core.List.{List}
 use Prim.Native.Nat.{ℕ, zero, suc, _+_, _*_, _-_, _/_, _%_, _^_, _≤_, _<_}
 use mathlib.Core.Logic.{⊎-elim}
 use native.Mathlib.Nat.{pow-suc, zero-div, eq-or-lt-of-le}
 use native.Mathlib.Omega.{arith}
-use lib.ListN.{getD, drop, length, List·getD-eq-default}
+use lib.ListN.{drop, length, List·getD-eq-default}
 use lib.Seq.{getD-drop}
 use Rattle.meaning.specs.Bits.{bitAt, bitsAt}
 

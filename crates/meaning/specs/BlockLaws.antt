@@ -1,14 +1,14 @@
 -- Blocks are accepted exactly when no condition of rows 5 to 7 holds.
 use mathlib.Core.Path.{_≡_, refl, sym, ap, _∙_}
-use mathlib.Core.Bool.{Bool, true, false, cond, _&&_}
+use mathlib.Core.Bool.{_&&_}
 use mathlib.Core.List.{List, [], _∷_, _++_}
 use Prim.Native.Nat.{ℕ, zero, suc, _+_, _*_, _-_, _≤_, _<_}
 use native.Mathlib.Omega.{arith}
 use lib.Dec.{ltb, leb, eqb}
 use lib.ListN.{length}
-use borrow.Author.Tests.{ltb-true, lt-ltb, leb-true, le-leb, eqb-true, eqb-false, eq-eqb, ne-eqb}
-use Rattle.lists.specs.Tests.{by-test, both-true}
-use Rattle.meaning.specs.Judged.{Judged, good, bad, _>>=_, need}
+use borrow.Author.Tests.{ltb-true, lt-ltb, leb-true, le-leb, eqb-true, eq-eqb, ne-eqb}
+use Rattle.lists.specs.Tests.{both-true}
+use Rattle.meaning.specs.Judged.{good, _>>=_}
 use Rattle.meaning.specs.JudgedLaws.{bind-good, need-good, good-same}
 use Rattle.meaning.specs.Bits.{bitsAt}
 use Rattle.meaning.specs.Layout.{headAt, sizeOf}
@@ -100,8 +100,7 @@ blocks-good s N t (suc fuel) i next (suc left) l h e =
     let y = bind-good (blocksAt s N t fuel (b .stop) (nextOf (b .postings) next) (suc left - length (b .postings))) _ (x .2) in
     let f = block-good s N t i next (suc left) b (x .1) in
     let r = blocks-good s N t fuel (b .stop) (nextOf (b .postings) next) (suc left - length (b .postings)) (y .0) (omega (arith, f .count)) (y .1) in
-    let same = good-same (y .2) in
-    rw (← same) (b ∷ r .0, (f, r .1), ap (λ (ps : List Posting). b .postings ++ ps) (r .2))
+    rw (← good-same (y .2)) (b ∷ r .0, (f, r .1), rw (r .2))
 
 pub fit-blocks : (s : List ℕ) (N t fuel i next left stop : ℕ) (bs : List Part) → left ≤ fuel → BlocksFit s N i next left stop bs →
     blocksAt s N t fuel i next left ≡ good (record { postings = joined bs; stop = stop })

@@ -1,16 +1,15 @@
 -- What a call says and what it leaves in the answer row: done exactly when no row of the table holds, each query's stretch after the one before.
 use mathlib.Core.Path.{_≡_, refl, sym, ap, _∙_}
-use mathlib.Core.Bool.{Bool, true, false}
 use mathlib.Core.List.{List, [], _∷_, _++_, append-assoc}
 use mathlib.Core.Logic.{_↔_}
-use Prim.Native.Nat.{ℕ, zero, suc, _+_, _*_, _-_, _≤_, _<_}
+use Prim.Native.Nat.{ℕ, zero, suc, _+_, _*_, _≤_, _<_}
 use native.Mathlib.Omega.{arith}
 use lib.Dec.{leb}
 use lib.ListN.{length, getD, take, drop, length-append, length-drop}
 use lib.Seq.{take-at, drop-at, drop-append-add}
 use borrow.Author.Tests.{leb-true, le-leb}
 use Rattle.meaning.specs.declared.Row.{Row}
-use Rattle.meaning.specs.Judged.{Judged, good, bad, _>>=_, need}
+use Rattle.meaning.specs.Judged.{Judged, good, bad}
 use Rattle.meaning.specs.JudgedLaws.{bind-good, need-good, good-same}
 use Rattle.meaning.specs.Image.{Index, imageOf}
 use Rattle.meaning.specs.Sheet.{Query, sheetOf}
@@ -38,9 +37,11 @@ unfolding answers needed
 answers-length ix [] = refl
 answers-length ix (q ∷ qs) = length-append (answer ix q) (answers ix qs) ∙ omega (arith, answer-length ix q, answers-length ix qs)
 
--- "its own stretch of the answer row, which starts where the previous one ended"
-stretches : (ix : Index) (qs : List Query) (rest : List ℕ) (i : ℕ) → i < length qs → (d : Query) →
-    take (3 + 2 * getD qs i d .k) (drop (needed (take i qs)) (answers ix qs ++ rest)) ≡ answer ix (getD qs i d)
+-- query i's "own stretch of the answer row, which starts where the previous one ended"
+abbrev pub stretch : List Query → ℕ → Query → List ℕ → List ℕ
+stretch qs i d row = take (3 + 2 * getD qs i d .k) (drop (needed (take i qs)) row)
+
+stretches : (ix : Index) (qs : List Query) (rest : List ℕ) (i : ℕ) → i < length qs → (d : Query) → stretch qs i d (answers ix qs ++ rest) ≡ answer ix (getD qs i d)
 unfolding answers needed
 stretches ix [] rest i h d = absurd (omega arith)
 stretches ix (q ∷ qs) rest zero h d = rw (append-assoc (answer ix q) (answers ix qs) rest, take-at (answer ix q) (answers ix qs ++ rest) _ (answer-length ix q))
@@ -59,14 +60,17 @@ unfolding ending
 said-bad (bad n p) row e = cc
 said-bad (good a) row e = absurd (let z : _≡_ {A = ℕ} 0 1 = cc in omega arith)
 
--- a call that is done: no row of the table holds
-pub record Fits (image sheet row : List ℕ) (count : ℕ) : Type 0 where
+-- a call whose image, sheet and answer row no row of the table refuses, and the count of numbers that it fills
+pub record CallFits (image sheet row : List ℕ) (count : ℕ) : Type 0 where
   pub index : Index
   pub queries : List Query
+  -- 1 to 8
   pub image-fits : ImageFits image index
+  -- 9 to 14
   pub sheet-fits : SheetFits sheet (length (index .terms)) queries
   -- 15: "answer row too short"
   pub room : needed queries ≤ length row
+  -- "Each query fills exactly 3 + 2k numbers"
   pub sum : count ≡ needed queries
 
 module _ (image sheet row : List ℕ) where
@@ -81,13 +85,13 @@ module _ (image sheet row : List ℕ) where
   refused-stays n p e = rw (said-bad (judged image sheet row) row e)
 
   -- the whole of what a call that is done comes to
-  pub done-is : {count : ℕ} (f : Fits image sheet row count) → call image sheet row ≡ record { said = good count; row = answers (f .index) (f .queries) ++ drop count row }
+  pub done-is : {count : ℕ} (f : CallFits image sheet row count) → call image sheet row ≡ record { said = good count; row = answers (f .index) (f .queries) ++ drop count row }
   unfolding call ending judged
   done-is f =
       let n = answers-length (f .index) (f .queries) ∙ sym (f .sum) in
       rw (fit-image image (f .index) (f .image-fits), fit-sheet sheet (length (f .index .terms)) (f .queries) (f .sheet-fits), le-leb (needed (f .queries)) (length row) (f .room), n)
 
-  done-fits : (count : ℕ) → call image sheet row .said ≡ good count → Fits image sheet row count
+  done-fits : (count : ℕ) → call image sheet row .said ≡ good count → CallFits image sheet row count
   unfolding call judged
   done-fits count e =
       let a = said-good (judged image sheet row) row e in
@@ -105,7 +109,7 @@ module _ (image sheet row : List ℕ) where
       }
 
   -- "none is given otherwise": a call is done exactly when no row of the table holds, and its count is the sum of 3 + 2k over its queries
-  pub done-exactly : (count : ℕ) → (call image sheet row .said ≡ good count) ↔ Fits image sheet row count
+  pub done-exactly : (count : ℕ) → (call image sheet row .said ≡ good count) ↔ CallFits image sheet row count
   done-exactly count = (done-fits count, λ f. ap (λ (c : Called). c .said) (done-is f))
 
   -- "Numbers past the last stretch stay."
@@ -125,6 +129,6 @@ module _ (image sheet row : List ℕ) where
           rw (done-is f) (simp (length-append, length-drop) (omega (arith, answers-length (f .index) (f .queries), f .sum, f .room)))
 
   -- "Each query writes only into its own stretch of the answer row, which starts where the previous one ended."
-  pub stretch-at : {count : ℕ} (f : Fits image sheet row count) (i : ℕ) → i < length (f .queries) → (d : Query) →
-      take (3 + 2 * getD (f .queries) i d .k) (drop (needed (take i (f .queries))) (call image sheet row .row)) ≡ answer (f .index) (getD (f .queries) i d)
+  pub stretch-at : {count : ℕ} (f : CallFits image sheet row count) (i : ℕ) → i < length (f .queries) → (d : Query) →
+      stretch (f .queries) i d (call image sheet row .row) ≡ answer (f .index) (getD (f .queries) i d)
   stretch-at {count} f i h d = rw (done-is f) (stretches (f .index) (f .queries) (drop count row) i h d)

@@ -1,19 +1,18 @@
 -- The refusals of a whole call: numbers 1 to 15 at the places of the table, the image's before the sheet's, and 15 last.
-use mathlib.Core.Path.{_≡_, refl, sym, ap, _∙_}
-use mathlib.Core.Bool.{Bool, true, false}
-use mathlib.Core.List.{List, [], _∷_}
-use mathlib.Core.Logic.{_↔_, ⊎-elim}
-use Prim.Native.Nat.{ℕ, _+_, _*_, _≤_, _<_}
+use mathlib.Core.Path.{_≡_, refl}
+use mathlib.Core.List.{List, []}
+use mathlib.Core.Logic.{_↔_}
+use Prim.Native.Nat.{ℕ, _≤_, _<_}
 use native.Mathlib.Omega.{arith}
 use lib.Dec.{leb}
 use lib.ListN.{length, getD}
-use borrow.Author.Tests.{leb-true, leb-false, lt-leb}
-use Rattle.meaning.specs.Judged.{Judged, good, bad, _>>=_, need, readOr}
-use Rattle.meaning.specs.JudgedLaws.{bind-bad, need-bad, Faults, no-fault, need-faults, bind-faults, more-faults}
+use borrow.Author.Tests.{leb-false, lt-leb}
+use Rattle.meaning.specs.Judged.{good, bad, readOr}
+use Rattle.meaning.specs.JudgedLaws.{Faults, no-fault, need-faults, bind-faults, more-faults}
 use Rattle.meaning.specs.Layout.{headerOf}
 use Rattle.meaning.specs.Image.{Index, imageOf}
 use Rattle.meaning.specs.Sheet.{Query, sheetOf}
-use Rattle.meaning.specs.Call.{answers, needed, judged}
+use Rattle.meaning.specs.Call.{needed, judged}
 use Rattle.meaning.specs.SheetFits.{Within}
 use Rattle.meaning.specs.IndexLaws.{index-terms}
 use Rattle.meaning.specs.RefusalLaws.{OfImage, image-fault, OfSheet, sheet-fault}
@@ -78,7 +77,7 @@ module _ (image sheet row : List ℕ) where
       bind-faults Table (more-faults of-image (image-fault image)) (λ ix e.
       bind-faults Table (more-faults of-sheet (sheet-fault sheet (length (ix .terms)))) (λ qs k.
       let room : needed qs ≡ asked image sheet = rw (← index-terms image ix e, k) in
-      need-faults Table (leb (needed qs) (length row)) (omega arith) (λ _ _. no-fault Table _)))
+      need-faults Table (leb (needed qs) (length row)) (λ _. omega arith) (λ _ _. no-fault Table _)))
 
   -- the table: only numbers 1 to 15 come, each at a place that its row gives
   pub refused-at : (number place : ℕ) → judged image sheet row ≡ bad number place → PlaceFits (headerOf image .terms) (getD sheet 0 0) (asked image sheet) number place
@@ -108,20 +107,21 @@ module _ (image sheet row : List ℕ) where
   unfolding judged
   short-refused place f = rw (f .image-good, f .sheet-good, lt-leb (needed (f .queries)) (length row) (f .short), f .place-is)
 
-  refused-short : (place : ℕ) → judged image sheet row ≡ bad 15 place → TooShort place
-  unfolding judged
-  refused-short place e =
-      ⊎-elim
-      (λ k. absurd (let f = image-fault image .given 15 place k in omega arith))
-      (λ x. ⊎-elim
-      (λ k. absurd (let f = sheet-fault sheet (length (x .0 .terms)) .given 15 place k in omega arith))
-      (λ y. ⊎-elim
-      (λ z. record { index = x .0; queries = y .0; image-good = x .1; sheet-good = y .1; short = leb-false _ _ (z .0); place-is = z .2 })
-      (λ z. absurd (let n : _≡_ {A = ℕ} 0 1 = cc (z .1) in omega arith))
-      (need-bad (leb (needed (y .0)) (length row)) 15 (needed (y .0)) _ (y .2)))
-      (bind-bad (sheetOf sheet (length (x .0 .terms))) _ (x .2)))
-      (bind-bad (imageOf image) _ e)
+  Short : ℕ → ℕ → Type 0
+  Short number place = number ≡ 15 → TooShort place
+
+  judged-short : Faults Short (judged image sheet row)
+  unfolding judged Short
+  judged-short =
+      bind-faults Short (more-faults (λ n p f z. absurd (omega (arith, f .numbers .1))) (image-fault image)) (λ ix e.
+      bind-faults Short (more-faults (λ n p f z. absurd (omega (arith, f .numbers .1))) (sheet-fault sheet (length (ix .terms)))) (λ qs k.
+      need-faults
+      Short
+      (leb (needed qs) (length row))
+      (λ s _. record { index = ix; queries = qs; image-good = e; sheet-good = k; short = leb-false _ _ s; place-is = refl })
+      (λ _ _. no-fault Short _)))
 
   -- "15 is last": it is given exactly when image and sheet are accepted and the answer row is too short
   pub room-last : (place : ℕ) → (judged image sheet row ≡ bad 15 place) ↔ TooShort place
-  room-last place = (refused-short place, short-refused place)
+  unfolding Short
+  room-last place = (λ e. judged-short .given 15 place e refl, short-refused place)

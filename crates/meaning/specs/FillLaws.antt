@@ -1,9 +1,8 @@
 -- How an accepted image is filled: block after block with their true last documents and largest impacts, list after list, and at most 7 zero bits.
-use mathlib.Core.Path.{_≡_, refl, sym, ap, _∙_}
+use mathlib.Core.Path.{_≡_}
 use mathlib.Core.Bool.{true, false}
-use mathlib.Core.List.{List, [], _∷_, _++_}
+use mathlib.Core.List.{List, [], _∷_}
 use Prim.Native.Nat.{ℕ, zero, suc, _+_, _*_, _-_, _≤_, _<_}
-use native.Mathlib.Nat.{zero-add}
 use native.Mathlib.Omega.{arith}
 use lib.Dec.{ltb}
 use lib.ListN.{length, getD}
@@ -14,9 +13,9 @@ use Rattle.meaning.specs.Bits.{bitAt, bitsAt}
 use Rattle.meaning.specs.BitsLaws.{bits-zero, bit-past}
 use Rattle.meaning.specs.Layout.{headerOf, entryAt, headAt, sizeOf}
 use Rattle.meaning.specs.Image.{Posting, Part, Term, Index, largestOf, nextOf, imageOf}
-use Rattle.meaning.specs.ImageFits.{BlockFits, BlocksFit, joined, ListFits, TermsFit, ImageFits}
+use Rattle.meaning.specs.ImageFits.{BlockFits, BlocksFit, joined, ListFits, TermsFit}
 use Rattle.meaning.specs.AcceptLaws.{image-good}
-use Rattle.meaning.specs.TermLaws.{Dues, lists-due}
+use Rattle.meaning.specs.TermLaws.{lists-due}
 use Rattle.meaning.specs.IndexLaws.{postingAt, listAt}
 use Rattle.meaning.specs.Score.{noTerm}
 

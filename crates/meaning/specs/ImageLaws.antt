@@ -2,12 +2,10 @@
 use mathlib.Core.Path.{_≡_, refl, sym, _∙_}
 use mathlib.Core.Bool.{Bool, true, false, cond}
 use mathlib.Core.List.{List, [], _∷_, _++_}
-use Prim.Native.Nat.{ℕ, zero, suc, _+_, _*_, _-_, _≤_, _<_, max}
+use Prim.Native.Nat.{ℕ, zero, suc, _+_, _-_, _≤_, _<_, max}
 use native.Mathlib.Omega.{arith}
 use lib.Dec.{eqb}
 use lib.ListN.{length, length-append}
-use borrow.Author.Tests.{eq-eqb}
-use Rattle.lists.specs.Tests.{by-test}
 use Rattle.meaning.specs.Judged.{good}
 use Rattle.meaning.specs.JudgedLaws.{bind-same}
 use Rattle.meaning.specs.Image.{Posting, Part, Term, Index, largestOf, nextOf, blockAt, blocksAt, imageOf}

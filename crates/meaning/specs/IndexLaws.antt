@@ -1,22 +1,20 @@
 -- What an accepted index is: its documents, impacts and maxima, and how its lists fill the image.
-use mathlib.Core.Path.{_≡_, refl, sym, ap, _∙_}
-use mathlib.Core.List.{List, [], _∷_, _++_}
-use Prim.Native.Nat.{ℕ, zero, suc, _+_, _*_, _-_, _≤_, _<_, _^_, max}
+use mathlib.Core.Path.{_≡_}
+use mathlib.Core.List.{List, [], _∷_}
+use Prim.Native.Nat.{ℕ, zero, suc, _+_, _*_, _≤_, _<_, _^_}
 use native.Mathlib.Omega.{arith}
 use lib.Dec.{leb}
 use lib.ListN.{length, getD}
 use borrow.Author.Tests.{leb-true, leb-false}
 use Rattle.lists.specs.Tests.{by-test}
-use Rattle.meaning.specs.Judged.{good, readOr}
-use Rattle.meaning.specs.Bits.{bitAt, bitsAt}
-use Rattle.meaning.specs.BitsLaws.{bits-lt, bits-zero, bit-past}
-use Rattle.meaning.specs.Layout.{headerOf, entryAt, headAt}
-use Rattle.meaning.specs.Image.{Posting, Part, Term, Index, largestOf, nextOf, imageOf, indexOf}
-use Rattle.meaning.specs.ImageFits.{BlockFits, BlocksFit, joined, TermsFit, ImageFits}
+use Rattle.meaning.specs.Judged.{good}
+use Rattle.meaning.specs.BitsLaws.{bits-lt}
+use Rattle.meaning.specs.Layout.{headerOf}
+use Rattle.meaning.specs.Image.{Posting, Term, Index, largestOf, imageOf, indexOf}
 use Rattle.meaning.specs.SheetFits.{Within}
 use Rattle.meaning.specs.AcceptLaws.{image-good}
 use Rattle.meaning.specs.ImageLaws.{Rising, Sound, image-sound}
-use Rattle.meaning.specs.TermLaws.{TermAt, term-at, Dues, lists-due}
+use Rattle.meaning.specs.TermLaws.{term-at}
 use Rattle.meaning.specs.Score.{noTerm}
 
 -- posting i of a list; there is none past its end

@@ -1,7 +1,6 @@
--- Laws of judging: what an accepted reading passed, and readings that go on alike.
+-- Laws of judging: what an accepted reading passed, readings that go on alike, and the faults that a reading can find.
 use mathlib.Core.Path.{_≡_, refl}
 use mathlib.Core.Bool.{Bool, true, false}
-use mathlib.Core.Logic.{_⊎_, inl, inr}
 use Prim.Native.Nat.{ℕ}
 use native.Mathlib.Omega.{arith}
 use Rattle.meaning.specs.Judged.{Judged, good, bad, _>>=_, need}
@@ -17,15 +16,6 @@ need-good false n p f e = absurd (let z : _≡_ {A = ℕ} 0 1 = cc in omega arit
 
 pub good-same : {A : Type 0} {a b : A} → _≡_ {A = Judged A} (good a) (good b) → a ≡ b
 good-same e = cc
-
--- a fault is the first step's, or else one after it
-pub bind-bad : {A B : Type 0} (m : Judged A) (f : A → Judged B) {n p : ℕ} → (m >>= f) ≡ bad n p → (m ≡ bad n p) ⊎ ((a : A) × (m ≡ good a) × (f a ≡ bad n p))
-bind-bad (good a) f e = inr (a, refl, e)
-bind-bad (bad m q) f {n} {p} e = inl (let x : m ≡ n = cc in let y : q ≡ p = cc in rw (x, y))
-
-pub need-bad : {B : Type 0} (t : Bool) (n p : ℕ) (f : Unit {0} → Judged B) {m q : ℕ} → (need t n p >>= f) ≡ bad m q → ((t ≡ false) × (m ≡ n) × (q ≡ p)) ⊎ ((t ≡ true) × (f tt ≡ bad m q))
-need-bad true n p f e = inr (refl, e)
-need-bad false n p f e = inl (refl, (cc), (cc))
 
 -- two readings that go on alike after each thing that can be read
 pub bind-same : {A B : Type 0} (m : Judged A) (f g : A → Judged B) → ((a : A) → m ≡ good a → f a ≡ g a) → (m >>= f) ≡ (m >>= g)
@@ -43,9 +33,9 @@ module _ (P : ℕ → ℕ → Type 0) where
   pub one-fault : {A : Type 0} {n p : ℕ} → P n p → Faults {A = A} P (bad n p)
   one-fault {n} {p} h = record { given = λ m q e. let a : n ≡ m = cc in let b : p ≡ q = cc in rw (← a, ← b) h }
 
-  pub need-faults : {B : Type 0} (t : Bool) {n p : ℕ} {f : Unit {0} → Judged B} → P n p → ((u : Unit {0}) → t ≡ true → Faults P (f u)) → Faults P (need t n p >>= f)
+  pub need-faults : {B : Type 0} (t : Bool) {n p : ℕ} {f : Unit {0} → Judged B} → (t ≡ false → P n p) → ((u : Unit {0}) → t ≡ true → Faults P (f u)) → Faults P (need t n p >>= f)
   need-faults true h k = k tt refl
-  need-faults false h k = one-fault h
+  need-faults false h k = one-fault (h refl)
 
   pub bind-faults : {A B : Type 0} {m : Judged A} {f : A → Judged B} → Faults P m → ((a : A) → m ≡ good a → Faults P (f a)) → Faults P (m >>= f)
   bind-faults {m = bad n p} h k = one-fault (h .given n p refl)

@@ -1,19 +1,18 @@
 -- One input, one outcome and one row; and an answer that depends on its index and its query only.
-use mathlib.Core.Path.{_≡_, refl, sym, ap, _∙_}
+use mathlib.Core.Path.{_≡_, sym, ap, _∙_}
 use mathlib.Core.List.{List}
-use Prim.Native.Nat.{ℕ, _+_, _*_, _<_}
+use Prim.Native.Nat.{ℕ, _<_}
 use native.Mathlib.Omega.{arith}
-use lib.ListN.{length, getD, take, drop}
+use lib.ListN.{length, getD}
 use Rattle.meaning.specs.declared.Outcome.{Outcome}
 use Rattle.meaning.specs.declared.Outcome.the-variants.{Done, Refused}
-use Rattle.meaning.specs.Judged.{Judged, good, bad}
 use Rattle.meaning.specs.Image.{Index, indexOf}
 use Rattle.meaning.specs.Sheet.{Query}
 use Rattle.meaning.specs.Answer.{answer}
-use Rattle.meaning.specs.Call.{needed, says, Called, call}
+use Rattle.meaning.specs.Call.{says, call}
 use Rattle.meaning.specs.AcceptLaws.{fit-image}
 use Rattle.meaning.specs.IndexLaws.{index-is}
-use Rattle.meaning.specs.CallLaws.{Fits, stretch-at}
+use Rattle.meaning.specs.CallLaws.{CallFits, stretch, stretch-at}
 
 -- "a definition that gives this paper's number and values for each of its cases": no two outcomes say the same
 pub says-same : (a b : Outcome) → says a ≡ says b → a ≡ b
@@ -32,12 +31,8 @@ pub record Promise (image sheet row : List ℕ) (outcome : Outcome) (after : Lis
 pub call-only : (image sheet row : List ℕ) (a b : Outcome) (x y : List ℕ) → Promise image sheet row a x → Promise image sheet row b y → (a ≡ b) × (x ≡ y)
 call-only image sheet row a b x y p q = (says-same a b (p .outcome-is ∙ sym (q .outcome-is)), p .row-is ∙ sym (q .row-is))
 
--- the stretch of query i in a row
-abbrev pub stretch : List Query → ℕ → Query → List ℕ → List ℕ
-stretch qs i d row = take (3 + 2 * getD qs i d .k) (drop (needed (take i qs)) row)
-
--- demand 2: the same query on two sheets, and on two images that read as the same index, answers the same
-module _ (image image′ sheet sheet′ row row′ : List ℕ) {count count′ : ℕ} (f : Fits image sheet row count) (f′ : Fits image′ sheet′ row′ count′) where
+-- "answers depend on index and query only (the same query on two sheets, and on two images that read as the same index, answers the same)"
+module _ (image image′ sheet sheet′ row row′ : List ℕ) {count count′ : ℕ} (f : CallFits image sheet row count) (f′ : CallFits image′ sheet′ row′ count′) where
   pub same-answer : indexOf image ≡ indexOf image′ → (i j : ℕ) → i < length (f .queries) → j < length (f′ .queries) → (d : Query) → getD (f .queries) i d ≡ getD (f′ .queries) j d →
       stretch (f .queries) i d (call image sheet row .row) ≡ stretch (f′ .queries) j d (call image′ sheet′ row′ .row)
   same-answer e i j h k d q =

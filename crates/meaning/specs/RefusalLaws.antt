@@ -1,21 +1,19 @@
 -- Which refusals an image and a sheet come to, each at a place in the range that its row of the table gives.
-use mathlib.Core.Path.{_≡_, refl, sym, ap, _∙_}
-use mathlib.Core.Bool.{Bool, true, false, cond, _&&_}
-use mathlib.Core.List.{List, [], _∷_}
+use mathlib.Core.Path.{_≡_, refl}
+use mathlib.Core.Bool.{_&&_}
+use mathlib.Core.List.{List, []}
 use Prim.Native.Nat.{ℕ, zero, suc, _+_, _*_, _-_, _≤_, _<_}
 use native.Mathlib.Omega.{arith}
 use lib.Dec.{ltb, leb, eqb}
 use lib.ListN.{length, getD}
-use borrow.Author.Tests.{leb-true}
-use Rattle.meaning.specs.Judged.{Judged, good, bad, _>>=_, need, readOr}
 use Rattle.meaning.specs.JudgedLaws.{Faults, no-fault, need-faults, bind-faults, more-faults}
 use Rattle.meaning.specs.Bits.{bitsAt}
 use Rattle.meaning.specs.Layout.{headerOf, entryAt, headAt, sizeOf}
-use Rattle.meaning.specs.Image.{Posting, Part, Terms, Index, largestOf, nextOf, postingsAt, blockAt, blocksAt, entryFits, termsAt, imageOf}
-use Rattle.meaning.specs.Sheet.{Pair, Query, within, pairsAt, queryAt, queriesAt, sheetOf}
+use Rattle.meaning.specs.Image.{largestOf, nextOf, postingsAt, blockAt, blocksAt, entryFits, termsAt, imageOf}
+use Rattle.meaning.specs.Sheet.{within, pairsAt, queryAt, queriesAt, sheetOf}
 use Rattle.meaning.specs.SheetFits.{Within}
 use Rattle.meaning.specs.SheetLaws.{within-true}
-use Rattle.meaning.specs.BlockLaws.{blocks-none, blocks-some}
+use Rattle.meaning.specs.BlockLaws.{blocks-some}
 
 -- a fault of term t: 5, 6 or 7 at t
 abbrev OfTerm : ℕ → ℕ → ℕ → Type 0
@@ -27,7 +25,7 @@ postings-fault s N t w i next zero = no-fault (OfTerm t) []
 postings-fault s N t w i next (suc n) =
     let d = next + bitsAt s i w in
     let P = OfTerm t in
-    need-faults P (ltb d N && ltb 0 (bitsAt s (i + w) 8)) (omega arith) (λ _ _.
+    need-faults P (ltb d N && ltb 0 (bitsAt s (i + w) 8)) (λ _. omega arith) (λ _ _.
     bind-faults P (postings-fault s N t w (i + w + 8) (suc d) n) (λ ps _. no-fault P _))
 
 block-fault : (s : List ℕ) (N t i next left : ℕ) → Faults (OfTerm t) (blockAt s N t i next left)
@@ -35,10 +33,10 @@ unfolding blockAt
 block-fault s N t i next left =
     let h = headAt s i in
     let P = OfTerm t in
-    need-faults P (leb (i + 44) (8 * length s)) (omega arith) (λ _ _.
-    need-faults P (leb (h .width) 24 && leb (h .count) left && leb (i + sizeOf h) (8 * length s)) (omega arith) (λ _ _.
+    need-faults P (leb (i + 44) (8 * length s)) (λ _. omega arith) (λ _ _.
+    need-faults P (leb (h .width) 24 && leb (h .count) left && leb (i + sizeOf h) (8 * length s)) (λ _. omega arith) (λ _ _.
     bind-faults P (postings-fault s N t (h .width) (i + 44) next (h .count)) (λ ps _.
-    need-faults P (eqb (h .last + 1) (nextOf ps next) && eqb (h .largest) (largestOf ps)) (omega arith) (λ _ _. no-fault P _))))
+    need-faults P (eqb (h .last + 1) (nextOf ps next) && eqb (h .largest) (largestOf ps)) (λ _. omega arith) (λ _ _. no-fault P _))))
 
 blocks-fault : (s : List ℕ) (N t fuel i next left : ℕ) → Faults (OfTerm t) (blocksAt s N t fuel i next left)
 unfolding blocksAt
@@ -59,9 +57,9 @@ terms-fault s N t due zero = no-fault (OfTerms t 0) _
 terms-fault s N t due (suc n) =
     let e = entryAt s t in
     let P = OfTerms t (suc n) in
-    need-faults P (entryFits N due e) (omega arith) (λ _ _.
+    need-faults P (entryFits N due e) (λ _. omega arith) (λ _ _.
     bind-faults P (more-faults (λ m p f. omega arith) (blocks-fault s N t (e .count) due 0 (e .count))) (λ l _.
-    need-faults P (eqb (e .largest) (largestOf (l .postings))) (omega arith) (λ _ _.
+    need-faults P (eqb (e .largest) (largestOf (l .postings))) (λ _. omega arith) (λ _ _.
     bind-faults P (more-faults (λ m p f. omega arith) (terms-fault s N (suc t) (l .stop) n)) (λ r _. no-fault P _))))
 
 -- "1, 2, 3; then terms in order ..; then 8": a fault of an image
@@ -76,11 +74,11 @@ unfolding imageOf
 image-fault s =
     let h = headerOf s in
     let P = OfImage (h .terms) in
-    need-faults P (leb 8 (length s)) (omega arith) (λ _ _.
-    need-faults P (eqb (h .version) 1) (omega arith) (λ _ _.
-    need-faults P (eqb (h .bytes) (length s) && leb (8 + 8 * h .terms) (length s)) (omega arith) (λ _ _.
+    need-faults P (leb 8 (length s)) (λ _. omega arith) (λ _ _.
+    need-faults P (eqb (h .version) 1) (λ _. omega arith) (λ _ _.
+    need-faults P (eqb (h .bytes) (length s) && leb (8 + 8 * h .terms) (length s)) (λ _. omega arith) (λ _ _.
     bind-faults P (more-faults (λ m p f. omega arith) (terms-fault s (h .docs) 0 (64 + 64 * h .terms) (h .terms))) (λ r _.
-    need-faults P (leb (8 * length s - r .stop) 7 && eqb (bitsAt s (r .stop) (8 * length s - r .stop)) 0) (omega arith) (λ _ _. no-fault P _)))))
+    need-faults P (leb (8 * length s - r .stop) 7 && eqb (bitsAt s (r .stop) (8 * length s - r .stop)) 0) (λ _. omega arith) (λ _ _. no-fault P _)))))
 
 -- a fault of query i: 9 to 14 at i
 abbrev OfQuery : ℕ → ℕ → ℕ → Type 0
@@ -91,8 +89,8 @@ unfolding pairsAt
 pairs-fault s T i at zero = no-fault (OfQuery i) _
 pairs-fault s T i at (suc q) =
     let P = OfQuery i in
-    need-faults P (ltb (getD s at 0) T) (omega arith) (λ _ _.
-    need-faults P (within 1 255 (getD s (at + 1) 0)) (omega arith) (λ _ _.
+    need-faults P (ltb (getD s at 0) T) (λ _. omega arith) (λ _ _.
+    need-faults P (within 1 255 (getD s (at + 1) 0)) (λ _. omega arith) (λ _ _.
     bind-faults P (pairs-fault s T i (at + 2) q) (λ ps _. no-fault P _)))
 
 query-fault : (s : List ℕ) (T i at : ℕ) → Faults (OfQuery i) (queryAt s T i at)
@@ -100,11 +98,11 @@ unfolding queryAt
 query-fault s T i at =
     let P = OfQuery i in
     let q = getD s (at + 3) 0 in
-    need-faults P (leb (at + 4) (length s)) (omega arith) (λ _ _.
-    need-faults P (leb (getD s at 0) 2) (omega arith) (λ _ _.
-    need-faults P (within 1 64 (getD s (at + 1) 0)) (omega arith) (λ _ _.
-    need-faults P (within 1 16 q) (omega arith) (λ _ _.
-    need-faults P (leb (at + 4 + 2 * q) (length s)) (omega arith) (λ _ _.
+    need-faults P (leb (at + 4) (length s)) (λ _. omega arith) (λ _ _.
+    need-faults P (leb (getD s at 0) 2) (λ _. omega arith) (λ _ _.
+    need-faults P (within 1 64 (getD s (at + 1) 0)) (λ _. omega arith) (λ _ _.
+    need-faults P (within 1 16 q) (λ _. omega arith) (λ _ _.
+    need-faults P (leb (at + 4 + 2 * q) (length s)) (λ _. omega arith) (λ _ _.
     bind-faults P (pairs-fault s T i (at + 4) q) (λ ps _. no-fault P _))))))
 
 -- a fault among n queries from query i on: at one of them, or a 9 after them
@@ -113,7 +111,7 @@ OfQueries i n number place = Within 9 14 number × (place ≤ i + n) × (10 ≤ 
 
 queries-fault : (s : List ℕ) (T i at n : ℕ) → Faults (OfQueries i n) (queriesAt s T i at n)
 unfolding queriesAt
-queries-fault s T i at zero = need-faults (OfQueries i 0) (eqb at (length s)) (omega arith) (λ _ _. no-fault (OfQueries i 0) _)
+queries-fault s T i at zero = need-faults (OfQueries i 0) (eqb at (length s)) (λ _. omega arith) (λ _ _. no-fault (OfQueries i 0) _)
 queries-fault s T i at (suc n) =
     let P = OfQueries i (suc n) in
     bind-faults P (more-faults (λ m p f. omega arith) (query-fault s T i at)) (λ q _.
@@ -130,5 +128,5 @@ pub sheet-fault : (s : List ℕ) (T : ℕ) → Faults (OfSheet (getD s 0 0)) (sh
 unfolding sheetOf
 sheet-fault s T =
     let n = getD s 0 0 in
-    need-faults (OfSheet n) (within 1 64 n) (record { numbers = omega arith; first = λ _. refl; sheet = omega arith; query = omega arith }) (λ _ w.
+    need-faults (OfSheet n) (within 1 64 n) (λ _. record { numbers = omega arith; first = λ _. refl; sheet = omega arith; query = omega arith }) (λ _ w.
     more-faults (λ m p f. record { numbers = f .0; first = λ h. absurd (h (within-true 1 64 n w)); sheet = λ _. omega (arith, f .1); query = λ h. omega (arith, f .2 h) }) (queries-fault s T 0 1 n))

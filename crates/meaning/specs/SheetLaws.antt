@@ -1,6 +1,6 @@
 -- A sheet is accepted exactly when no condition of rows 9 to 14 holds, and what every accepted query is.
-use mathlib.Core.Path.{_≡_, refl, sym, ap, _∙_}
-use mathlib.Core.Bool.{Bool, true, false, _&&_}
+use mathlib.Core.Path.{_≡_, refl, ap}
+use mathlib.Core.Bool.{true}
 use mathlib.Core.List.{List, [], _∷_}
 use mathlib.Core.Logic.{_↔_}
 use Prim.Native.Nat.{ℕ, zero, suc, _+_, _*_, _≤_, _<_}
@@ -12,7 +12,7 @@ use borrow.Author.Tests.{ltb-true, lt-ltb, leb-true, le-leb, eqb-true, eq-eqb}
 use Rattle.lists.specs.Tests.{both-true}
 use Rattle.meaning.specs.declared.Mode.{Mode}
 use Rattle.meaning.specs.declared.Mode.the-variants.{Plain, Pruned, All}
-use Rattle.meaning.specs.Judged.{Judged, good, bad, _>>=_, need}
+use Rattle.meaning.specs.Judged.{good}
 use Rattle.meaning.specs.JudgedLaws.{bind-good, need-good, good-same}
 use Rattle.meaning.specs.Sheet.{Pair, Query, within, modeOf, numberOf, pairsAt, queryAt, queriesAt, sheetOf}
 use Rattle.meaning.specs.SheetFits.{Within, PairFits, PairsFit, QueryFits, QueriesFit, SheetFits}
