@@ -1,3 +1,3 @@
 // Judging an image.
-pub mod fields;
 pub mod block;
+pub mod fields;

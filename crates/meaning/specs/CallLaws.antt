@@ -8,34 +8,28 @@ use lib.Dec.{leb}
 use lib.ListN.{length, getD, take, drop, length-append, length-drop}
 use lib.Seq.{take-at, drop-at, drop-append-add}
 use borrow.Author.Tests.{leb-true, le-leb}
-use Rattle.meaning.specs.declared.Row.{Row}
 use Rattle.meaning.specs.Judged.{Judged, good, bad}
 use Rattle.meaning.specs.JudgedLaws.{bind-good, need-good, good-same}
 use Rattle.meaning.specs.Image.{Index, imageOf}
 use Rattle.meaning.specs.Sheet.{Query, sheetOf}
-use Rattle.meaning.specs.Answer.{filled, answerOf, answer}
+use Rattle.meaning.specs.Score.{mentions}
+use Rattle.meaning.specs.Answer.{answer}
 use Rattle.meaning.specs.Call.{answers, needed, judged, Called, ending, call}
 use Rattle.meaning.specs.ImageFits.{ImageFits}
 use Rattle.meaning.specs.SheetFits.{SheetFits}
 use Rattle.meaning.specs.AcceptLaws.{image-good, fit-image}
 use Rattle.meaning.specs.SheetLaws.{sheet-good, fit-sheet}
-
--- "then document and score for each row, then zeros up to k rows"
-filled-length : (k : ℕ) (rows : List Row) → length (filled k rows) ≡ 2 * k
-unfolding filled
-filled-length zero rows = refl
-filled-length (suc k) [] = omega (arith, filled-length k [])
-filled-length (suc k) (r ∷ rows) = omega (arith, filled-length k rows)
+use Rattle.meaning.specs.AnswerLaws.{answer-length}
 
 -- "Each query fills exactly 3 + 2k numbers"
-pub answer-length : (ix : Index) (q : Query) → length (answer ix q) ≡ 3 + 2 * q .k
-unfolding answer answerOf
-answer-length ix q = simp filled-length (omega arith)
+pub fills : (ix : Index) (q : Query) → length (answer ix q) ≡ 3 + 2 * q .k
+unfolding answer
+fills ix q = answer-length (q .mode) (mentions ix q) (q .k) (q .budget) (ix .docs)
 
 pub answers-length : (ix : Index) (qs : List Query) → length (answers ix qs) ≡ needed qs
 unfolding answers needed
 answers-length ix [] = refl
-answers-length ix (q ∷ qs) = length-append (answer ix q) (answers ix qs) ∙ omega (arith, answer-length ix q, answers-length ix qs)
+answers-length ix (q ∷ qs) = length-append (answer ix q) (answers ix qs) ∙ omega (arith, fills ix q, answers-length ix qs)
 
 -- query i's "own stretch of the answer row, which starts where the previous one ended"
 abbrev pub stretch : List Query → ℕ → Query → List ℕ → List ℕ
@@ -44,9 +38,9 @@ stretch qs i d row = take (3 + 2 * getD qs i d .k) (drop (needed (take i qs)) ro
 stretches : (ix : Index) (qs : List Query) (rest : List ℕ) (i : ℕ) → i < length qs → (d : Query) → stretch qs i d (answers ix qs ++ rest) ≡ answer ix (getD qs i d)
 unfolding answers needed
 stretches ix [] rest i h d = absurd (omega arith)
-stretches ix (q ∷ qs) rest zero h d = rw (append-assoc (answer ix q) (answers ix qs) rest, take-at (answer ix q) (answers ix qs ++ rest) _ (answer-length ix q))
+stretches ix (q ∷ qs) rest zero h d = rw (append-assoc (answer ix q) (answers ix qs) rest, take-at (answer ix q) (answers ix qs ++ rest) _ (fills ix q))
 stretches ix (q ∷ qs) rest (suc i) h d =
-    rw (append-assoc (answer ix q) (answers ix qs) rest, ← answer-length ix q, drop-append-add (answer ix q) (answers ix qs ++ rest) (needed (take i qs)))
+    rw (append-assoc (answer ix q) (answers ix qs) rest, ← fills ix q, drop-append-add (answer ix q) (answers ix qs ++ rest) (needed (take i qs)))
     (stretches ix qs rest i (omega arith) d)
 
 -- what a call says, from what judging says

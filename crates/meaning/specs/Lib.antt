@@ -24,8 +24,6 @@ pub mod SheetFits
 pub mod SheetLaws
 pub mod RefusalLaws
 pub mod FaultLaws
-pub mod CallLaws
-pub mod OnlyLaws
 pub mod ScoreLaws
 pub mod OrderedLaws
 pub mod RankLaws
@@ -43,3 +41,5 @@ pub mod BudgetLaws
 pub mod LosslessLaws
 pub mod WordLaws
 pub mod MentionLaws
+pub mod CallLaws
+pub mod OnlyLaws

@@ -113,7 +113,7 @@ module _ (s : List ℕ) (T i : ℕ) where
           q-low = m .0;
           q-high = m .1;
           inside = leb-true (at + 4 + 2 * n) (length s) (x .2);
-          pair = pairs-fair (at + 4) n (x .3 .0) (x .3 .1)
+          pair = pairs-fair (at + 4) n (x .3 .0) (x .3 .1);
         })
 
   one-query :

@@ -23,7 +23,7 @@ queryFrom s at =
       mode = modeOf (getD s at 0);
       k = getD s (at + 1) 0;
       budget = getD s (at + 2) 0;
-      pairs = pairsFrom s (at + 4) (getD s (at + 3) 0)
+      pairs = pairsFrom s (at + 4) (getD s (at + 3) 0);
     }
 
 -- the query that a record of the sheet s stands for

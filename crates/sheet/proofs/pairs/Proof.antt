@@ -37,7 +37,7 @@ wide-requires c κs = search needs
 
 -- src/lib.rt:87:13
 returns : tie.Need-returns Inv-loop μ-loop
-returns c = 
+returns c =
     let l = c .before .before .before .before in
     sym (term-off _ _ _ _ _ (l .loop .left) (omega arith) (omega arith)) ∙ l .loop .inv .1
 
@@ -55,13 +55,13 @@ shared-slice-read-weight c = search needs
 
 -- src/lib.rt:91:13
 returns-2 : tie.Need-returns-2 Inv-loop μ-loop
-returns-2 c = 
+returns-2 c =
     let l = c .before .before .before .before .before .before in
     sym (weight-low _ _ _ _ _ (omega arith) (l .loop .left) (omega arith) (omega arith)) ∙ l .loop .inv .1
 
 -- src/lib.rt:94:13
 returns-3 : tie.Need-returns-3 Inv-loop μ-loop
-returns-3 c = 
+returns-3 c =
     let l = c .before .before .before .before .before .before .before in
     sym (weight-high _ _ _ _ _ (omega arith) (omega arith) (l .loop .left) (omega arith) (omega arith)) ∙ l .loop .inv .1
 
@@ -79,13 +79,13 @@ loop-less c = search needs
 
 -- src/lib.rt:85:5
 loop-again : tie.Need-loop-again Inv-loop μ-loop
-loop-again c = 
+loop-again c =
     let l = c .before .before .before .before .before .before .before in
     (omega arith, sym (pair-on _ _ _ _ _ (omega arith) (omega arith) (l .loop .left) (omega arith) (omega arith)) ∙ l .loop .inv .1)
 
 -- src/lib.rt:79:1
 returns-4 : tie.Need-returns-4 Inv-loop μ-loop
-returns-4 c = 
+returns-4 c =
     let z : c .before .loop .left ≡ 0 = omega arith in
     pairs-end _ _ _ _ _ ∙ rw z at (c .before .loop .inv .1)
 
