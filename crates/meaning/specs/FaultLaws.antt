@@ -2,7 +2,7 @@
 use mathlib.Core.Path.{_≡_, refl}
 use mathlib.Core.List.{List, []}
 use mathlib.Core.Logic.{_↔_}
-use Prim.Native.Nat.{ℕ, _≤_, _<_}
+use Prim.Native.Nat.{ℕ, _<_}
 use native.Mathlib.Omega.{arith}
 use lib.Dec.{leb}
 use lib.ListN.{length, getD}
@@ -13,26 +13,8 @@ use Rattle.meaning.specs.Layout.{headerOf}
 use Rattle.meaning.specs.Image.{Index, imageOf}
 use Rattle.meaning.specs.Sheet.{Query, sheetOf}
 use Rattle.meaning.specs.Call.{needed, judged}
-use Rattle.meaning.specs.SheetFits.{Within}
 use Rattle.meaning.specs.IndexLaws.{index-terms}
-use Rattle.meaning.specs.RefusalLaws.{OfImage, image-fault, OfSheet, sheet-fault}
-
--- the places of the table, row by row
-pub record PlaceFits (T queries needed number place : ℕ) : Type 0 where
-  pub numbers : Within 1 15 number
-  -- 1 to 3: 0
-  pub whole : number ≤ 3 → place ≡ 0
-  -- 4 to 7: a term
-  pub term : 4 ≤ number → number ≤ 7 → place < T
-  -- 8: T
-  pub rest : number ≡ 8 → place ≡ T
-  -- 9: "query; 0 if the first number is at fault; the number of queries for numbers left over"
-  pub sheet : number ≡ 9 → place ≤ queries
-  pub first : number ≡ 9 → (Within 1 64 queries → ⊥) → place ≡ 0
-  -- 10 to 14: a query
-  pub query : 10 ≤ number → number ≤ 14 → place < queries
-  -- 15: the numbers needed
-  pub room : number ≡ 15 → place ≡ needed
+use Rattle.meaning.specs.RefusalLaws.{PlaceFits, image-fault, sheet-fault}
 
 -- the numbers that the answers to a sheet on an image fill
 abbrev pub asked : List ℕ → List ℕ → ℕ
@@ -42,40 +24,11 @@ module _ (image sheet row : List ℕ) where
   Table : ℕ → ℕ → Type 0
   Table number place = PlaceFits (headerOf image .terms) (getD sheet 0 0) (asked image sheet) number place
 
-  of-image : (n p : ℕ) → OfImage (headerOf image .terms) n p → Table n p
-  unfolding Table
-  of-image n p f =
-      let small = f .numbers .1 in
-      record {
-        numbers = omega arith;
-        whole = f .whole;
-        term = f .term;
-        rest = f .rest;
-        sheet = λ h. absurd (omega arith);
-        first = λ h. absurd (omega arith);
-        query = λ h. absurd (omega arith);
-        room = λ h. absurd (omega arith);
-      }
-
-  of-sheet : (n p : ℕ) → OfSheet (getD sheet 0 0) n p → Table n p
-  unfolding Table
-  of-sheet n p f =
-      record {
-        numbers = omega arith;
-        whole = λ h. absurd (omega arith);
-        term = λ h k. absurd (omega arith);
-        rest = λ h. absurd (omega arith);
-        sheet = f .sheet;
-        first = λ h. f .first;
-        query = λ h k. f .query h;
-        room = λ h. absurd (omega arith);
-      }
-
   judged-faults : Faults Table (judged image sheet row)
   unfolding judged Table
   judged-faults =
-      bind-faults Table (more-faults of-image (image-fault image)) (λ ix e.
-      bind-faults Table (more-faults of-sheet (sheet-fault sheet (length (ix .terms)))) (λ qs k.
+      bind-faults Table (more-faults (λ n p f. f .1) (image-fault image (getD sheet 0 0) (asked image sheet))) (λ ix e.
+      bind-faults Table (more-faults (λ n p f. f .1) (sheet-fault sheet (length (ix .terms)) (headerOf image .terms) (asked image sheet))) (λ qs k.
       let room : needed qs ≡ asked image sheet = rw (← index-terms image ix e, k) in
       need-faults Table (leb (needed qs) (length row)) (λ _. omega arith) (λ _ _. no-fault Table _)))
 
@@ -113,8 +66,8 @@ module _ (image sheet row : List ℕ) where
   judged-short : Faults Short (judged image sheet row)
   unfolding judged Short
   judged-short =
-      bind-faults Short (more-faults (λ n p f z. absurd (omega (arith, f .numbers .1))) (image-fault image)) (λ ix e.
-      bind-faults Short (more-faults (λ n p f z. absurd (omega (arith, f .numbers .1))) (sheet-fault sheet (length (ix .terms)))) (λ qs k.
+      bind-faults Short (more-faults (λ n p f z. absurd (omega (arith, f .0))) (image-fault image 0 0)) (λ ix e.
+      bind-faults Short (more-faults (λ n p f z. absurd (omega (arith, f .0))) (sheet-fault sheet (length (ix .terms)) 0 0)) (λ qs k.
       need-faults
       Short
       (leb (needed qs) (length row))

@@ -1,4 +1,4 @@
--- What an accepted index is: its documents, impacts and maxima, and how its lists fill the image.
+-- What an accepted index is: its sizes, and each list's documents, impacts and largest impact.
 use mathlib.Core.Path.{_≡_}
 use mathlib.Core.List.{List, [], _∷_}
 use Prim.Native.Nat.{ℕ, zero, suc, _+_, _*_, _≤_, _<_, _^_}
@@ -9,7 +9,7 @@ use borrow.Author.Tests.{leb-true, leb-false}
 use Rattle.lists.specs.Tests.{by-test}
 use Rattle.meaning.specs.Judged.{good}
 use Rattle.meaning.specs.BitsLaws.{bits-lt}
-use Rattle.meaning.specs.Layout.{headerOf}
+use Rattle.meaning.specs.Layout.{headerOf, entryAt}
 use Rattle.meaning.specs.Image.{Posting, Term, Index, largestOf, imageOf, indexOf}
 use Rattle.meaning.specs.SheetFits.{Within}
 use Rattle.meaning.specs.AcceptLaws.{image-good}
@@ -86,30 +86,37 @@ module _ (s : List ℕ) (ix : Index) (e : imageOf s ≡ good ix) where
   unfolding indexOf
   index-is = rw e
 
+  list-sound : (t : ℕ) → t < length (ix .terms) → Rising (ix .docs) 0 (listAt ix t) × (getD (ix .terms) t noTerm .largest ≡ largestOf (listAt ix t))
+  list-sound t h = sound-at (ix .docs) (ix .terms) (image-sound s ix e) t h
+
   -- "A posting's document is the previous document of the list plus 1 plus the gap"
+  pub list-rises : (t : ℕ) → t < length (ix .terms) → Rising (ix .docs) 0 (listAt ix t)
+  list-rises t h = list-sound t h .0
+
   pub documents-rise : (t : ℕ) → t < length (ix .terms) → (i j : ℕ) → i < j → j < length (listAt ix t) → postingAt (listAt ix t) i .doc < postingAt (listAt ix t) j .doc
-  documents-rise t h = rising-order (ix .docs) 0 (listAt ix t) (sound-at (ix .docs) (ix .terms) (image-sound s ix e) t h .0)
+  documents-rise t h = rising-order (ix .docs) 0 (listAt ix t) (list-rises t h)
 
   -- 6: "document number N or above, or impact 0"
   pub documents-below : (t : ℕ) → t < length (ix .terms) → (i : ℕ) → i < length (listAt ix t) → postingAt (listAt ix t) i .doc < ix .docs
-  documents-below t h i k = rising-from (ix .docs) 0 (listAt ix t) (sound-at (ix .docs) (ix .terms) (image-sound s ix e) t h .0) i k .1
+  documents-below t h i k = rising-from (ix .docs) 0 (listAt ix t) (list-rises t h) i k .1
 
-  -- "largest impact of the list (8)", which 7 has shown to be the true one
+  -- 7: "a list's largest impact, is not the true one"; "largest impact of the list (8)"
   pub largest-true : (t : ℕ) → t < length (ix .terms) → (getD (ix .terms) t noTerm .largest ≡ largestOf (listAt ix t)) × (largestOf (listAt ix t) < 256)
   largest-true t h =
-      let same = sound-at (ix .docs) (ix .terms) (image-sound s ix e) t h .1 in
-      let named = term-at s ix e t h .largest in
-      let small = bits-lt s (64 + 64 * t + 56) 8 in
-      (same, omega arith)
+      let same = list-sound t h .1 in
+      (same, omega (arith, term-at s ix e t h .largest, bits-lt s (64 + 64 * t + 56) 8))
 
   -- "an impact of 8 bits, 1 to 255"
   pub impacts-fit : (t : ℕ) → t < length (ix .terms) → (i : ℕ) → i < length (listAt ix t) → Within 1 255 (postingAt (listAt ix t) i .impact)
   impacts-fit t h i k =
-      let some = rising-from (ix .docs) 0 (listAt ix t) (sound-at (ix .docs) (ix .terms) (image-sound s ix e) t h .0) i k .2 in
+      let some = rising-from (ix .docs) 0 (listAt ix t) (list-rises t h) i k .2 in
       let top = largest-top (listAt ix t) i in
       let small = largest-true t h .1 in
-      (omega arith, omega arith)
+      (some, omega arith)
 
-  -- 4: "postings above N"
+  -- "number of postings (24)" of the entry, and 4: "postings above N"
+  pub postings-count : (t : ℕ) → t < length (ix .terms) → length (listAt ix t) ≡ entryAt s t .count
+  postings-count t h = term-at s ix e t h .count
+
   pub postings-few : (t : ℕ) → t < length (ix .terms) → length (listAt ix t) ≤ ix .docs
-  postings-few t h = let a = term-at s ix e t h in omega (arith, a .count, a .entry .count)
+  postings-few t h = omega (arith, postings-count t h, term-at s ix e t h .entry .count)

@@ -1,5 +1,5 @@
 -- Which refusals an image and a sheet come to, each at a place in the range that its row of the table gives.
-use mathlib.Core.Path.{_≡_, refl}
+use mathlib.Core.Path.{_≡_}
 use mathlib.Core.Bool.{_&&_}
 use mathlib.Core.List.{List, []}
 use Prim.Native.Nat.{ℕ, zero, suc, _+_, _*_, _-_, _≤_, _<_}
@@ -14,6 +14,27 @@ use Rattle.meaning.specs.Sheet.{within, pairsAt, queryAt, queriesAt, she
 use Rattle.meaning.specs.SheetFits.{Within}
 use Rattle.meaning.specs.SheetLaws.{within-true}
 use Rattle.meaning.specs.BlockLaws.{blocks-some}
+
+-- the places of the table, row by row
+pub record PlaceFits (T queries needed number place : ℕ) : Type 0 where
+  pub numbers : Within 1 15 number
+  -- 1 to 3: 0
+  pub whole : number ≤ 3 → place ≡ 0
+  -- 4 to 7: a term
+  pub term : 4 ≤ number → number ≤ 7 → place < T
+  -- 8: T
+  pub rest : number ≡ 8 → place ≡ T
+  -- 9: "query; 0 if the first number is at fault; the number of queries for numbers left over"
+  pub sheet : number ≡ 9 → place ≤ queries
+  pub first : number ≡ 9 → (Within 1 64 queries → ⊥) → place ≡ 0
+  -- 10 to 14: a query
+  pub query : 10 ≤ number → number ≤ 14 → place < queries
+  -- 15: the numbers needed
+  pub room : number ≡ 15 → place ≡ needed
+
+-- a refusal by one of the rows from number `low` to number `high`
+abbrev pub InRows : ℕ → ℕ → ℕ → ℕ → ℕ → ℕ → ℕ → Type 0
+InRows low high T queries needed number place = Within low high number × PlaceFits T queries needed number place
 
 -- a fault of term t: 5, 6 or 7 at t
 abbrev OfTerm : ℕ → ℕ → ℕ → Type 0
@@ -62,18 +83,12 @@ terms-fault s N t due (suc n) =
     need-faults P (eqb (e .largest) (largestOf (l .postings))) (λ _. omega arith) (λ _ _.
     bind-faults P (more-faults (λ m p f. omega arith) (terms-fault s N (suc t) (l .stop) n)) (λ r _. no-fault P _))))
 
--- "1, 2, 3; then terms in order ..; then 8": a fault of an image
-pub record OfImage (T number place : ℕ) : Type 0 where
-  pub numbers : Within 1 8 number
-  pub whole : number ≤ 3 → place ≡ 0
-  pub term : 4 ≤ number → number ≤ 7 → place < T
-  pub rest : number ≡ 8 → place ≡ T
-
-pub image-fault : (s : List ℕ) → Faults (OfImage (headerOf s .terms)) (imageOf s)
+-- "1, 2, 3; then terms in order ..; then 8": the faults of an image, whatever the sheet
+pub image-fault : (s : List ℕ) (queries needed : ℕ) → Faults (InRows 1 8 (headerOf s .terms) queries needed) (imageOf s)
 unfolding imageOf
-image-fault s =
+image-fault s queries needed =
     let h = headerOf s in
-    let P = OfImage (h .terms) in
+    let P = InRows 1 8 (h .terms) queries needed in
     need-faults P (leb 8 (length s)) (λ _. omega arith) (λ _ _.
     need-faults P (eqb (h .version) 1) (λ _. omega arith) (λ _ _.
     need-faults P (eqb (h .bytes) (length s) && leb (8 + 8 * h .terms) (length s)) (λ _. omega arith) (λ _ _.
@@ -117,16 +132,26 @@ queries-fault s T i at (suc n) =
     bind-faults P (more-faults (λ m p f. omega arith) (query-fault s T i at)) (λ q _.
     bind-faults P (more-faults (λ m p f. (f .0, omega arith, λ h. omega (arith, f .2 h))) (queries-fault s T (suc i) (at + 4 + 2 * length (q .pairs)) n)) (λ qs _. no-fault P _))
 
--- a fault of a sheet whose first number is `queries`
-pub record OfSheet (queries number place : ℕ) : Type 0 where
-  pub numbers : Within 9 14 number
-  pub first : (Within 1 64 queries → ⊥) → place ≡ 0
-  pub sheet : number ≡ 9 → place ≤ queries
-  pub query : 10 ≤ number → place < queries
+queries-rows : (T n needed number place : ℕ) → Within 1 64 n → OfQueries 0 n number place → InRows 9 14 T n needed number place
+queries-rows T n needed number place w f = (
+  f .0,
+  record {
+    numbers = omega arith;
+    whole = omega arith;
+    term = omega arith;
+    rest = omega arith;
+    sheet = omega arith;
+    first = λ _ h. absurd (h w);
+    query = λ h _. omega (arith, f .2 h);
+    room = omega arith;
+  },
+)
 
-pub sheet-fault : (s : List ℕ) (T : ℕ) → Faults (OfSheet (getD s 0 0)) (sheetOf s T)
+-- "Then the sheet in reading order": the faults of a sheet, whatever the image
+pub sheet-fault : (s : List ℕ) (T terms needed : ℕ) → Faults (InRows 9 14 terms (getD s 0 0) needed) (sheetOf s T)
 unfolding sheetOf
-sheet-fault s T =
+sheet-fault s T terms needed =
     let n = getD s 0 0 in
-    need-faults (OfSheet n) (within 1 64 n) (λ _. record { numbers = omega arith; first = λ _. refl; sheet = omega arith; query = omega arith }) (λ _ w.
-    more-faults (λ m p f. record { numbers = f .0; first = λ h. absurd (h (within-true 1 64 n w)); sheet = λ _. omega (arith, f .1); query = λ h. omega (arith, f .2 h) }) (queries-fault s T 0 1 n))
+    let P = InRows 9 14 terms n needed in
+    need-faults P (within 1 64 n) (λ _. omega arith) (λ _ w.
+    more-faults (λ m p f. queries-rows terms n needed m p (within-true 1 64 n w) f) (queries-fault s T 0 1 n))
