@@ -14,7 +14,8 @@ use Rattle.meaning.specs.Image.{Index, imageOf}
 use Rattle.meaning.specs.Sheet.{Query, sheetOf}
 use Rattle.meaning.specs.Call.{needed, judged}
 use Rattle.meaning.specs.IndexLaws.{index-terms}
-use Rattle.meaning.specs.RefusalLaws.{PlaceFits, image-fault, sheet-fault}
+use Rattle.meaning.specs.RefusalLaws.{image-fault, sheet-fault}
+use Rattle.meaning.specs.PlaceFits.{PlaceFits}
 
 -- the numbers that the answers to a sheet on an image fill
 abbrev pub asked : List ℕ → List ℕ → ℕ

@@ -22,6 +22,7 @@ pub mod IndexLaws
 pub mod FillLaws
 pub mod SheetFits
 pub mod SheetLaws
+pub mod PlaceFits
 pub mod RefusalLaws
 pub mod FaultLaws
 pub mod ScoreLaws
