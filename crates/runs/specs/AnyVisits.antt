@@ -10,7 +10,7 @@ use Rattle.meaning.specs.declared.Row.{Row}
 use Rattle.meaning.specs.Score.{Mention, holders}
 use Rattle.meaning.specs.Rank.{insert, ranked, bar}
 use Rattle.meaning.specs.Cost.{Tally, ordered, P, aside, visitAt, cost}
-use Rattle.meaning.specs.OrderLaws.{ordered-length}
+use Rattle.meaning.specs.OrderedLaws.{ordered-length}
 use Rattle.meaning.specs.AsideLaws.{aside-le, aside-low}
 use Rattle.meaning.specs.PruneLaws.{visit-some, unvisited}
 use Rattle.meaning.specs.VisitLaws.{BySome, plain-cost-ordered}
