@@ -1,17 +1,17 @@
 -- Best k: what the rows of an answer are, and demand 2, that those of a finished query are the best k of all.
 use mathlib.Core.Path.{_≡_, refl, sym, ap, subst, _∙_}
-use mathlib.Core.Bool.{Bool, true, false, cond}
-use mathlib.Core.List.{List, [], _∷_}
-use Prim.Native.Nat.{ℕ, zero, suc, _+_, _*_, min, _≤_, _<_}
+use mathlib.Core.Bool.{true, cond}
+use mathlib.Core.List.{List}
+use Prim.Native.Nat.{ℕ, zero, suc, min, _<_}
 use native.Mathlib.Omega.{arith}
-use lib.ListN.{length, getD, take, length-take}
+use lib.ListN.{length, getD, length-take}
 use lib.Seq.{getD-take}
 use Rattle.lists.specs.Tests.{by-test, by-order}
 use Rattle.lists.specs.Each.{Each, each-at, Has}
 use Rattle.meaning.specs.declared.Mode.{Mode}
 use Rattle.meaning.specs.declared.Row.{Row}
 use Rattle.meaning.specs.Score.{Mention, score, matches}
-use Rattle.meaning.specs.Rank.{outranks, insert, ranked, rowOf, noRow}
+use Rattle.meaning.specs.Rank.{outranks, ranked, rowOf, noRow}
 use Rattle.meaning.specs.Answer.{placeOf, answerOf}
 use Rattle.meaning.specs.RankLaws.{sorted-at}
 use Rattle.meaning.specs.InsertLaws.{insert-length, insert-each, insert-has, insert-keeps}

@@ -1,27 +1,26 @@
 -- Demand 3: what the budget does to an answer.
-use mathlib.Core.Path.{_≡_, refl, sym, ap, subst, _∙_}
+use mathlib.Core.Path.{_≡_, refl, sym, ap, _∙_}
 use mathlib.Core.Logic.{_↔_, _⊎_, inl, inr}
-use mathlib.Core.Bool.{Bool, true, false, true≢false}
-use mathlib.Core.List.{List, [], _∷_}
-use Prim.Native.Nat.{ℕ, zero, suc, _+_, _*_, min, _≤_, _<_}
+use mathlib.Core.Bool.{true, true≢false}
+use mathlib.Core.List.{List}
+use Prim.Native.Nat.{ℕ, zero, suc, _+_, _≤_, _<_}
 use native.Mathlib.Omega.{arith}
-use native.Mathlib.Nat.{mul-le-mul}
-use lib.ListN.{length, getD, take, length-take}
+use lib.ListN.{length, length-take}
 use Rattle.lists.specs.Tests.{by-test, by-order}
 use Rattle.lists.specs.Each.{Each, Has, each-at, each-from, each-take}
 use Rattle.meaning.specs.declared.Mode.{Mode}
 use Rattle.meaning.specs.declared.Row.{Row}
 use Rattle.meaning.specs.Score.{Mention, score, matches}
 use Rattle.meaning.specs.Rank.{insert, ranked, rowOf, noRow, bar}
-use Rattle.meaning.specs.Place.{spent, stops}
-use Rattle.meaning.specs.Answer.{costAt, placeOf, filled, answerOf}
+use Rattle.meaning.specs.Place.{spent}
+use Rattle.meaning.specs.Answer.{costAt, placeOf, answerOf}
 use Rattle.meaning.specs.InsertLaws.{insert-each}
 use Rattle.meaning.specs.TableLaws.{ranked-unmatched, enter}
 use Rattle.meaning.specs.VisitLaws.{visits, visits-some, visits-free, cost-le}
-use Rattle.meaning.specs.PlaceLaws.{place-later, place-le, place-end, place-goes, free-goes, fits-goes, dear-stops, spent-within, spent-most}
+use Rattle.meaning.specs.PlaceLaws.{place-later, place-le, place-end, place-goes, free-goes, fits-goes, dear-stops, spent-within}
 use Rattle.meaning.specs.PostingsLaws.{allPostings, within-postings}
 use Rattle.meaning.specs.AnswerLaws.{placeIn, foundIn, scoredIn, rowIn, rowsAt, answer-place, answer-found, answer-scored, answer-row}
-use Rattle.meaning.specs.BestLaws.{Best, answer-best}
+use Rattle.meaning.specs.BestLaws.{answer-best}
 
 module _ (mode : Mode) (ms : List Mention) (k N : ℕ) where
   -- the answer to a budget, and what each document costs

@@ -1,18 +1,17 @@
 -- Laws of a document's score and of the number of mentions that hold it.
 use mathlib.Core.Path.{_≡_, refl}
-use mathlib.Core.Bool.{Bool, true, false, cond}
+use mathlib.Core.Bool.{true}
 use mathlib.Core.List.{List, [], _∷_}
 use Prim.Native.Nat.{ℕ, zero, suc, _+_, _*_, _≤_, _<_}
 use native.Mathlib.Omega.{arith}
 use native.Mathlib.Nat.{mul-zero, mul-pos, mul-le-mul}
-use lib.Dec.{ltb, eqb}
 use lib.ListN.{length, drop, take}
 use borrow.Author.Tests.{ltb-true, eqb-true, ne-eqb}
 use Rattle.lists.specs.Tests.{by-zero}
 use Rattle.lists.specs.Each.{Each}
 use Rattle.meaning.specs.declared.Mode.{Mode}
 use Rattle.meaning.specs.declared.Mode.the-variants.{Plain, Pruned, All}
-use Rattle.meaning.specs.Score.{Mention, impactAt, gain, held, score, holders, matches}
+use Rattle.meaning.specs.Score.{Mention, impactAt, held, score, holders, matches}
 
 -- no impact is above the list's largest
 abbrev pub Capped : List Mention → Type 0
