@@ -30,7 +30,7 @@ module _ (d : ℕ) where
   held-by : {C : Type 0} (m : Mention) → (held m d ≡ 1 → 0 < impactAt (m .postings) d → C) → (held m d ≡ 0 → impactAt (m .postings) d ≡ 0 → C) → C
   held-by m f g = by-zero (impactAt (m .postings) d) (λ z. g (rw z) z) (λ h. f (rw (ne-eqb (impactAt (m .postings) d) 0 (λ z. omega arith))) h)
 
-  pub held-le : (m : Mention) → held m d ≤ 1
+  held-le : (m : Mention) → held m d ≤ 1
   held-le m = held-by m (λ e h. omega arith) (λ e h. omega arith)
 
   pub holders-le : (ms : List Mention) → holders ms d ≤ length ms
@@ -57,7 +57,7 @@ module _ (d : ℕ) where
       held-by m (λ e l. absurd (omega arith)) (λ e l. rw l (omega (arith, mul-zero (m .weight))))
 
   -- what some list holds scores above 0
-  pub score-some : (ms : List Mention) → Weighty ms → 0 < holders ms d → 0 < score ms d
+  score-some : (ms : List Mention) → Weighty ms → 0 < holders ms d → 0 < score ms d
   unfolding holders score
   score-some [] w h = h
   score-some (m ∷ ms) w h =
