@@ -1,7 +1,7 @@
 -- An answer by its numbers: "place, rows found, postings scored, then document and score for each row, then zeros up to k rows".
 use mathlib.Core.Path.{_≡_, refl, sym, ap, _∙_}
 use mathlib.Core.List.{List, [], _∷_}
-use Prim.Native.Nat.{ℕ, zero, suc, _+_, _*_, min, _≤_, _<_}
+use Prim.Native.Nat.{ℕ, zero, suc, _+_, _*_, _≤_, _<_}
 use native.Mathlib.Omega.{arith}
 use lib.ListN.{length, getD, take, length-take, List·getD-eq-default}
 use lib.Seq.{getD-take}
@@ -58,37 +58,47 @@ filled-row (suc k) (r ∷ l) (suc i) h =
     rw two (filled-row k l i (omega arith))
 
 module _ (mode : Mode) (ms : List Mention) (k budget N : ℕ) where
+  -- the answer, its place and its rows
+  abbrev a : List ℕ
+  a = answerOf mode ms k budget N
+
+  abbrev p : ℕ
+  p = placeOf mode ms k budget N
+
+  abbrev rows : List Row
+  rows = rowsAt mode ms k p
+
   -- "Each query fills exactly 3 + 2k numbers"
-  pub answer-length : length (answerOf mode ms k budget N) ≡ 3 + 2 * k
+  pub answer-length : length a ≡ 3 + 2 * k
   unfolding answerOf
-  answer-length = omega (arith, filled-length k (ranked mode ms (placeOf mode ms k budget N)))
+  answer-length = omega (arith, filled-length k (ranked mode ms p))
 
-  -- the answer from its place and its rows alone, as a walk has them in the end
-  pub answer-is : answerOf mode ms k budget N ≡ placeOf mode ms k budget N ∷ length (rowsAt mode ms k (placeOf mode ms k budget N)) ∷ spent (costAt mode ms k) (placeOf mode ms k budget N) ∷ filled k (rowsAt mode ms k (placeOf mode ms k budget N))
+  -- the answer from its place, its rows and its count alone, as a walk has them in the end
+  pub answer-is : a ≡ p ∷ length rows ∷ spent (costAt mode ms k) p ∷ filled k rows
   unfolding answerOf
-  answer-is = rw (length-take k (ranked mode ms (placeOf mode ms k budget N)), filled-take k (ranked mode ms (placeOf mode ms k budget N)))
+  answer-is = rw (length-take k (ranked mode ms p), filled-take k (ranked mode ms p))
 
-  -- its numbers
-  pub answer-place : placeIn (answerOf mode ms k budget N) ≡ placeOf mode ms k budget N
+  -- "place, rows found, postings scored"
+  pub answer-place : placeIn a ≡ p
   unfolding answerOf
   answer-place = refl
 
-  pub answer-found : foundIn (answerOf mode ms k budget N) ≡ length (rowsAt mode ms k (placeOf mode ms k budget N))
+  pub answer-found : foundIn a ≡ length rows
   answer-found = ap foundIn answer-is
 
-  pub answer-scored : scoredIn (answerOf mode ms k budget N) ≡ spent (costAt mode ms k) (placeOf mode ms k budget N)
+  pub answer-scored : scoredIn a ≡ spent (costAt mode ms k) p
   unfolding answerOf
   answer-scored = refl
 
-  pub answer-row : (i : ℕ) → i < k → rowIn (answerOf mode ms k budget N) i ≡ getD (rowsAt mode ms k (placeOf mode ms k budget N)) i noRow
+  -- "then document and score for each row"
+  pub answer-row : (i : ℕ) → i < k → rowIn a i ≡ getD rows i noRow
   unfolding answerOf
   answer-row i h =
-      let l = ranked mode ms (placeOf mode ms k budget N) in
+      let l = ranked mode ms p in
       let three : 3 + 2 * i ≡ suc (suc (suc (2 * i))) = omega arith in
       let four : 4 + 2 * i ≡ suc (suc (suc (suc (2 * i)))) = omega arith in
       rw (three, four) (filled-row k l i h ∙ sym (getD-take k l i noRow h))
 
   -- "then zeros up to k rows"
-  pub answer-zeros : (i : ℕ) → i < k → foundIn (answerOf mode ms k budget N) ≤ i → rowIn (answerOf mode ms k budget N) i ≡ noRow
-  answer-zeros i h past =
-      answer-row i h ∙ List·getD-eq-default (rowsAt mode ms k (placeOf mode ms k budget N)) noRow {n = i} (omega (arith, answer-found))
+  pub answer-zeros : (i : ℕ) → i < k → foundIn a ≤ i → rowIn a i ≡ noRow
+  answer-zeros i h past = answer-row i h ∙ List·getD-eq-default rows noRow {n = i} (omega (arith, answer-found))

@@ -1,15 +1,15 @@
 -- Laws of P(i) and of the rank j up to which mentions are set aside.
-use mathlib.Core.Path.{_≡_, refl, sym, ap, _∙_}
-use mathlib.Core.Bool.{Bool, true, false, cond, true≢false}
+use mathlib.Core.Path.{_≡_, sym, ap, _∙_}
+use mathlib.Core.Bool.{Bool, true, true≢false}
 use mathlib.Core.List.{List, [], _∷_}
-use Prim.Native.Nat.{ℕ, zero, suc, _+_, _*_, _≤_, _<_}
+use Prim.Native.Nat.{ℕ, zero, suc, _+_, _≤_, _<_}
 use native.Mathlib.Omega.{arith}
 use native.Mathlib.Nat.{mul-le-mul-left}
 use lib.Dec.{leb}
 use lib.ListN.{length, getD, take, drop}
 use borrow.Author.Tests.{leb-true, le-leb}
 use Rattle.lists.specs.Tests.{by-test, by-order, by-zero}
-use Rattle.meaning.specs.Score.{Mention, impactAt, gain, score, holders}
+use Rattle.meaning.specs.Score.{Mention, score, holders}
 use Rattle.meaning.specs.Cost.{ceiling, P, last, aside, noMention}
 use Rattle.meaning.specs.ScoreLaws.{Capped, score-none, score-split}
 

@@ -1,17 +1,17 @@
 -- Best k: what the rows of an answer are, and demand 2, that those of a finished query are the best k of all.
 use mathlib.Core.Path.{_≡_, refl, sym, ap, subst, _∙_}
-use mathlib.Core.Bool.{Bool, true, false, cond}
-use mathlib.Core.List.{List, [], _∷_}
-use Prim.Native.Nat.{ℕ, zero, suc, _+_, _*_, min, _≤_, _<_}
+use mathlib.Core.Bool.{true, cond}
+use mathlib.Core.List.{List}
+use Prim.Native.Nat.{ℕ, zero, suc, min, _<_}
 use native.Mathlib.Omega.{arith}
-use lib.ListN.{length, getD, take, length-take}
+use lib.ListN.{length, getD, length-take}
 use lib.Seq.{getD-take}
 use Rattle.lists.specs.Tests.{by-test, by-order}
 use Rattle.lists.specs.Each.{Each, each-at, Has}
 use Rattle.meaning.specs.declared.Mode.{Mode}
 use Rattle.meaning.specs.declared.Row.{Row}
 use Rattle.meaning.specs.Score.{Mention, score, matches}
-use Rattle.meaning.specs.Rank.{outranks, insert, ranked, rowOf, noRow}
+use Rattle.meaning.specs.Rank.{outranks, ranked, rowOf, noRow}
 use Rattle.meaning.specs.Answer.{placeOf, answerOf}
 use Rattle.meaning.specs.RankLaws.{sorted-at}
 use Rattle.meaning.specs.InsertLaws.{insert-length, insert-each, insert-has, insert-keeps}
@@ -23,15 +23,15 @@ unfoldable pub matching : Mode → List Mention → ℕ → ℕ
 matching mode ms zero = 0
 matching mode ms (suc d) = cond (matches mode ms d) (suc (matching mode ms d)) (matching mode ms d)
 
--- rows 0 to found - 1 are the best k among the matching documents below p
+-- rows 0 to found - 1 are the best k among the matching documents below the place p
 pub record Best (mode : Mode) (ms : List Mention) (k p found : ℕ) (row : ℕ → Row) : Type 0 where
-  -- they are in strict rank order
+  -- "rows are in strict rank order"
   pub order : (i j : ℕ) → i < j → j < found → outranks (row i) (row j) ≡ true
-  -- each matches, is below p, and carries its true score
+  -- "every row matches, is below the place, and carries its true score"
   pub right : (i : ℕ) → i < found → (matches mode ms (row i .doc) ≡ true) × (row i .doc < p) × (row i .score ≡ score ms (row i .doc))
-  -- a matching document below p that is not a row is outranked by every row, and there are then k rows
+  -- "every matching document below the place that is not a row is outranked by every row, and there are then k rows"
   pub rest : (d : ℕ) → d < p → matches mode ms d ≡ true → ((i : ℕ) → i < found → row i .doc ≡ d → ⊥) → (found ≡ k) × ((i : ℕ) → i < found → outranks (row i) (rowOf ms d) ≡ true)
-  -- they are the smaller of k and the number of matching documents below p
+  -- "The rows found are the smaller of k and the number of matching documents below the place."
   pub count : found ≡ min k (matching mode ms p)
 
 module _ (mode : Mode) (ms : List Mention) where
@@ -94,23 +94,26 @@ module _ (mode : Mode) (ms : List Mention) where
         }
 
 module _ (mode : Mode) (ms : List Mention) (k budget N : ℕ) where
+  abbrev a : List ℕ
+  a = answerOf mode ms k budget N
+
   -- the rows of an answer are the best k among the matching documents below its place
-  pub answer-best : Best mode ms k (placeIn (answerOf mode ms k budget N)) (foundIn (answerOf mode ms k budget N)) (rowIn (answerOf mode ms k budget N))
+  pub answer-best : Best mode ms k (placeIn a) (foundIn a) (rowIn a)
   answer-best =
       let p = placeOf mode ms k budget N in
       let l = ranked mode ms p in
       let first = length-take k l in
       rw (answer-place mode ms k budget N, answer-found mode ms k budget N)
-      (best-same mode ms k p (length (rowsAt mode ms k p)) (λ i. getD l i noRow) (rowIn (answerOf mode ms k budget N))
+      (best-same mode ms k p (length (rowsAt mode ms k p)) (λ i. getD l i noRow) (rowIn a)
       (λ i h. let low : i < k = omega arith in answer-row mode ms k budget N i low ∙ getD-take k l i noRow low)
       (ranked-best mode ms k p))
 
-  -- demand 2: those of a finished query are the best k among all matching documents below N
-  pub finished-best : placeIn (answerOf mode ms k budget N) ≡ N → Best mode ms k N (foundIn (answerOf mode ms k budget N)) (rowIn (answerOf mode ms k budget N))
-  finished-best e = subst (λ (p : ℕ). Best mode ms k p (foundIn (answerOf mode ms k budget N)) (rowIn (answerOf mode ms k budget N))) e answer-best
+  -- "a finished query's rows are the best k among all matching documents below N"
+  pub finished-best : placeIn a ≡ N → Best mode ms k N (foundIn a) (rowIn a)
+  finished-best e = subst (λ (p : ℕ). Best mode ms k p (foundIn a) (rowIn a)) e answer-best
 
-  -- by exhaustive evaluation
-  pub finished-ranked : placeIn (answerOf mode ms k budget N) ≡ N → (i : ℕ) → i < k → rowIn (answerOf mode ms k budget N) i ≡ getD (ranked mode ms N) i noRow
+  -- "by exhaustive evaluation"
+  pub finished-ranked : placeIn a ≡ N → (i : ℕ) → i < k → rowIn a i ≡ getD (ranked mode ms N) i noRow
   finished-ranked e i h =
       answer-row mode ms k budget N i h ∙ getD-take k (ranked mode ms (placeOf mode ms k budget N)) i noRow h
       ∙ ap (λ (p : ℕ). getD (ranked mode ms p) i noRow) (sym (answer-place mode ms k budget N) ∙ e)

@@ -11,6 +11,7 @@ pub mod Answer
 pub mod Call
 pub mod Examples
 pub mod Worked
+pub mod Edges
 pub mod BitsLaws
 pub mod JudgedLaws
 pub mod ImageFits

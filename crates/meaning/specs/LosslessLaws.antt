@@ -1,11 +1,10 @@
 -- Pruning loses nothing: mode 1 leaves out only what could not enter, costs no more than mode 0, and finishes with the same rows.
-use mathlib.Core.Path.{_≡_, refl, sym, ap, _∙_}
-use mathlib.Core.Bool.{Bool, true, false}
+use mathlib.Core.Path.{_≡_, sym, ap, _∙_}
+use mathlib.Core.Bool.{false}
 use mathlib.Core.List.{List}
-use Prim.Native.Nat.{ℕ, zero, suc, _+_, _≤_, _<_}
+use Prim.Native.Nat.{ℕ, suc, _+_, _≤_, _<_}
 use native.Mathlib.Omega.{arith}
 use lib.ListN.{length, getD, take, drop}
-use Rattle.meaning.specs.declared.Mode.{Mode}
 use Rattle.meaning.specs.declared.Mode.the-variants.{Plain, Pruned}
 use Rattle.meaning.specs.declared.Row.{Row}
 use Rattle.meaning.specs.Score.{Mention, score}
@@ -26,20 +25,19 @@ module _ (ms : List Mention) (fit : Fit ms) (k d : ℕ) where
   abbrev b : ℕ
   b = bar Pruned ms k d
 
-  -- "A document is visited if a mention above rank j holds it": one that is not visited has a score at most the bar at it
+  -- "in mode 1 a document that is not visited .. has a score at most the bar at it"
   pub unvisited-at-most : visits Pruned ms b d ≡ false → score ms d ≤ b
   unvisited-at-most e = pruned-low ms (fit .capped) b d e
 
-  -- "if the sum so far plus P(i) is at most the bar, the document is dropped": so has one that is dropped at rank i, when all
-  -- mentions above that rank have been scored
+  -- ".., or is dropped": at rank i, all mentions above it scored, "the sum so far plus P(i) is at most the bar"
   pub dropped-at-most : (i : ℕ) → score (drop i (ordered ms)) d + P (ordered ms) i ≤ b → score ms d ≤ b
   dropped-at-most i h = omega (arith, ordered-score d ms, dropped-low (ordered ms) b d i (ordered-capped ms (fit .capped)) h)
 
-  -- and the first k rows are the same with such a document and without it
+  -- "the first k rows are the same with it and without it"
   pub at-most-keeps : score ms d ≤ b → take k (ranked Pruned ms (suc d)) ≡ take k (ranked Pruned ms d)
   at-most-keeps low = keep-low Pruned ms k d (fit .weighty) (fit .some) low
 
--- mode 1's cost is at most mode 0's at every document
+-- "its cost is at most mode 0's at every document"
 pub pruned-cheaper : (ms : List Mention) (k d : ℕ) → costAt Pruned ms k d ≤ costAt Plain ms k d
 unfolding costAt cost
 pruned-cheaper ms k d = cost-held Pruned ms (bar Pruned ms k d) d
@@ -51,13 +49,13 @@ module _ (ms : List Mention) (k budget N : ℕ) where
   abbrev pruned : List ℕ
   pruned = answerOf Pruned ms k budget N
 
-  -- so it goes no less far with the same budget
+  -- so with the same budget it goes at least as far
   pub pruned-further : placeIn plain ≤ placeIn pruned
   unfolding placeOf
   pruned-further =
       omega (arith, answer-place Plain ms k budget N, answer-place Pruned ms k budget N, place-later (costAt Pruned ms k) (costAt Plain ms k) (length ms) budget budget N (pruned-cheaper ms k) (omega arith))
 
-  -- modes 0 and 1 when both finish have the same rows, and mode 1 scores no more
+  -- "modes 0 and 1 when both finish have the same rows", and mode 1 has scored no more
   pub same-rows : placeIn plain ≡ N → placeIn pruned ≡ N → (foundIn plain ≡ foundIn pruned) × ((i : ℕ) → i < k → rowIn plain i ≡ rowIn pruned i) × (scoredIn pruned ≤ scoredIn plain)
   same-rows e f =
       let p = placeOf Plain ms k budget N in

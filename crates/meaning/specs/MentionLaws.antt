@@ -1,19 +1,19 @@
 -- What the mentions of an accepted sheet's query have on an accepted image: all that the laws of walks, scores and answers ask of them.
-use mathlib.Core.Path.{_≡_, refl, sym, ap, _∙_}
+use mathlib.Core.Path.{_≡_}
 use mathlib.Core.List.{List, [], _∷_, map}
-use Prim.Native.Nat.{ℕ, _+_, _*_, _≤_, _<_}
+use Prim.Native.Nat.{ℕ, _+_, _≤_, _<_}
 use native.Mathlib.Omega.{arith}
 use lib.ListN.{length, getD, length-map}
 use Rattle.lists.specs.Each.{Each, each-more}
 use Rattle.meaning.specs.Judged.{good}
-use Rattle.meaning.specs.Image.{Posting, Index, imageOf}
+use Rattle.meaning.specs.Image.{Index, imageOf}
 use Rattle.meaning.specs.Sheet.{Pair, Query}
 use Rattle.meaning.specs.Score.{Mention, noTerm, mentionOf, mentions, impactAt, score}
-use Rattle.meaning.specs.Answer.{answerOf, answer}
+use Rattle.meaning.specs.Answer.{answer}
 use Rattle.meaning.specs.SheetFits.{PairFits, PairsFit, QueryFits}
 use Rattle.meaning.specs.ImageLaws.{impact-top}
 use Rattle.meaning.specs.IndexLaws.{largest-true, docs-small}
-use Rattle.meaning.specs.ScoreLaws.{Capped, Weighty, Small, score-fits}
+use Rattle.meaning.specs.ScoreLaws.{Small, score-fits}
 use Rattle.meaning.specs.WalkLaws.{Fit}
 use Rattle.meaning.specs.WordLaws.{Word, answer-words}
 

@@ -1,10 +1,8 @@
 -- Laws of the stop rule and of the place, over any cost.
-use mathlib.Core.Path.{_≡_, refl, sym, ap, subst, _∙_}
-use mathlib.Core.Logic.{_↔_}
-use mathlib.Core.Bool.{Bool, true, false, cond, _&&_, true≢false}
+use mathlib.Core.Path.{_≡_, refl, sym, ap, _∙_}
+use mathlib.Core.Bool.{Bool, true, false, true≢false}
 use Prim.Native.Nat.{ℕ, zero, suc, _+_, _*_, _≤_, _<_}
 use native.Mathlib.Omega.{arith}
-use native.Mathlib.Nat.{zero-add}
 use lib.Dec.{ltb}
 use borrow.Author.Tests.{ltb-true, ltb-false, lt-ltb, le-ltb}
 use Rattle.lists.specs.Tests.{by-test, both-true, by-order}
@@ -115,10 +113,6 @@ module _ (c : ℕ → ℕ) (q b : ℕ) where
   unfolding place
   place-end N none =
       first-only (stops c q b) 0 N (first (stops c q b) 0 N) N (first-is (stops c q b) 0 N) (record { low = omega arith; high = omega arith; before = λ e g l. none e l; found = λ l. absurd (omega arith) })
-
-  -- a query finishes exactly where no visited document would pass the budget
-  pub finishes : (N : ℕ) → ((d : ℕ) → d < N → stops c q b d ≡ false) ↔ (place c q b N ≡ N)
-  finishes N = (place-end N, λ e d h. place-goes N d (subst (λ (p : ℕ). d < p) (sym e) h))
 
   module _ (fits : (d : ℕ) → c d ≤ q) where
     spent-below : (N d : ℕ) → d ≤ place c q b N → spent c d ≤ b

@@ -1,18 +1,17 @@
 -- Laws of a document's score and of the number of mentions that hold it.
 use mathlib.Core.Path.{_≡_, refl}
-use mathlib.Core.Bool.{Bool, true, false, cond}
+use mathlib.Core.Bool.{true}
 use mathlib.Core.List.{List, [], _∷_}
 use Prim.Native.Nat.{ℕ, zero, suc, _+_, _*_, _≤_, _<_}
 use native.Mathlib.Omega.{arith}
 use native.Mathlib.Nat.{mul-zero, mul-pos, mul-le-mul}
-use lib.Dec.{ltb, eqb}
 use lib.ListN.{length, drop, take}
 use borrow.Author.Tests.{ltb-true, eqb-true, ne-eqb}
 use Rattle.lists.specs.Tests.{by-zero}
 use Rattle.lists.specs.Each.{Each}
 use Rattle.meaning.specs.declared.Mode.{Mode}
 use Rattle.meaning.specs.declared.Mode.the-variants.{Plain, Pruned, All}
-use Rattle.meaning.specs.Score.{Mention, impactAt, gain, held, score, holders, matches}
+use Rattle.meaning.specs.Score.{Mention, impactAt, held, score, holders, matches}
 
 -- no impact is above the list's largest
 abbrev pub Capped : List Mention → Type 0
@@ -31,7 +30,7 @@ module _ (d : ℕ) where
   held-by : {C : Type 0} (m : Mention) → (held m d ≡ 1 → 0 < impactAt (m .postings) d → C) → (held m d ≡ 0 → impactAt (m .postings) d ≡ 0 → C) → C
   held-by m f g = by-zero (impactAt (m .postings) d) (λ z. g (rw z) z) (λ h. f (rw (ne-eqb (impactAt (m .postings) d) 0 (λ z. omega arith))) h)
 
-  pub held-le : (m : Mention) → held m d ≤ 1
+  held-le : (m : Mention) → held m d ≤ 1
   held-le m = held-by m (λ e h. omega arith) (λ e h. omega arith)
 
   pub holders-le : (ms : List Mention) → holders ms d ≤ length ms
@@ -58,7 +57,7 @@ module _ (d : ℕ) where
       held-by m (λ e l. absurd (omega arith)) (λ e l. rw l (omega (arith, mul-zero (m .weight))))
 
   -- what some list holds scores above 0
-  pub score-some : (ms : List Mention) → Weighty ms → 0 < holders ms d → 0 < score ms d
+  score-some : (ms : List Mention) → Weighty ms → 0 < holders ms d → 0 < score ms d
   unfolding holders score
   score-some [] w h = h
   score-some (m ∷ ms) w h =

@@ -1,14 +1,13 @@
 -- "at most 1,040,400": every number of an answer fits 32 bits.
-use mathlib.Core.Path.{_≡_, refl, sym, ap, _∙_}
 use mathlib.Core.List.{List, [], _∷_}
-use Prim.Native.Nat.{ℕ, zero, suc, _+_, _*_, min, _≤_, _<_}
+use Prim.Native.Nat.{ℕ, zero, suc, _*_, _≤_, _<_}
 use native.Mathlib.Omega.{arith}
 use native.Mathlib.Nat.{mul-le-mul}
 use lib.ListN.{length, getD}
 use Rattle.lists.specs.Each.{Each, each-at, each-from}
 use Rattle.meaning.specs.declared.Mode.{Mode}
 use Rattle.meaning.specs.declared.Row.{Row}
-use Rattle.meaning.specs.Score.{Mention, score, matches}
+use Rattle.meaning.specs.Score.{Mention, score}
 use Rattle.meaning.specs.Rank.{ranked, noRow, bar}
 use Rattle.meaning.specs.Place.{spent}
 use Rattle.meaning.specs.Answer.{costAt, placeOf, filled, answerOf}
