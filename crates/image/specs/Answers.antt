@@ -8,6 +8,8 @@ use Rattle.image.specs.declared.block.Postings.{Postings}
 use Rattle.image.specs.declared.block.Postings.the-variants as postings
 use Rattle.image.specs.declared.block.Block.{Block}
 use Rattle.image.specs.declared.block.Block.the-variants as block
+use Rattle.image.specs.declared.list.Blocks.{Blocks}
+use Rattle.image.specs.declared.list.Blocks.the-variants as blocks
 
 -- a fault as it is, or f of what was read
 abbrev pub keep : {A B : Type 0} → (A → B) → Judged A → Judged B
@@ -40,3 +42,15 @@ takenOf i next b =
 abbrev pub blockSays : ℕ → Block → Judged Taken
 blockSays t (block.Wrong n) = bad n t
 blockSays t (block.Good bits postings next largest) = good (record { bits = bits; postings = postings; next = next; largest = largest })
+
+-- what is kept of a list: the bit after it, and its largest impact
+pub record Listed : Type 0 where
+  pub stop : ℕ
+  pub largest : ℕ
+
+abbrev pub listedOf : Part → Listed
+listedOf b = record { stop = b .stop; largest = largestOf (b .postings) }
+
+abbrev pub blocksSay : ℕ → Blocks → Judged Listed
+blocksSay t (blocks.Wrong n) = bad n t
+blocksSay t (blocks.Good stop largest) = good (record { stop = stop; largest = largest })

@@ -34,7 +34,7 @@ head-small s i h e =
     subst⁻¹ Small e (record { some = omega arith; few = omega (arith, bits-lt s i 7); last = omega (arith, bits-lt s (i + 20) 24) })
 
 -- as many postings are read as were asked for
-postings-count : (s : List ℕ) (N t w i next n : ℕ) (ps : List Posting) → postingsAt s N t w i next n ≡ good ps → length ps ≡ n
+pub postings-count : (s : List ℕ) (N t w i next n : ℕ) (ps : List Posting) → postingsAt s N t w i next n ≡ good ps → length ps ≡ n
 unfolding postingsAt
 postings-count s N t w i next zero ps e = ap length (sym (good-same e))
 postings-count s N t w i next (suc n) ps e =

@@ -3,3 +3,5 @@ pub mod Answers
 pub mod KeepLaws
 pub mod PostingLaws
 pub mod BlockLaws
+pub mod PartLaws
+pub mod ListLaws

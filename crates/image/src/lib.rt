@@ -1,3 +1,4 @@
 // Judging an image.
 pub mod fields;
 pub mod block;
+pub mod list;
