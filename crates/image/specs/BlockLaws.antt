@@ -68,8 +68,8 @@ module _ (s : List ℕ) (N t i next left : ℕ) where
   ended h (bad n p) count = refl
   ended h (good ps) count =
       let size : i + sizeOf h - i ≡ sizeOf h = omega arith in
-      keep-need (eqb (h .last + 1) (nextOf ps next) && eqb (h .largest) (largestOf ps)) 7 t (good (record { postings = ps; stop = i + sizeOf h })) (takenOf i next)
-      ∙ rw (size, count ps refl)
+      keep-need (eqb (h .last + 1) (nextOf ps next) && eqb (h .largest) (largestOf ps)) 7 t (takenOf i next) (good (record { postings = ps; stop = i + sizeOf h })) _
+      (rw (size, count ps refl))
 
   -- a block that is there: its postings, and what its head says of them
   pub block-there :

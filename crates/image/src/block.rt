@@ -28,7 +28,14 @@ pub fn larger(a: u64, b: u64) -> u64
 }
 
 // The n postings with gaps of w bits from bit `start` on; `first` is the previous document plus 1.
-pub fn judge_postings(part: &[u8], docs: u64, w: usize, start: usize, first: u64, n: usize) -> Postings
+pub fn judge_postings(
+    part: &[u8],
+    docs: u64,
+    w: usize,
+    start: usize,
+    first: u64,
+    n: usize,
+) -> Postings
     requires { ⌜ (docs < 16777216) × (w ≤ 24) × (first ≤ docs) × (length (now part) < 16777216) × (start + n * (w + 8) ≤ 8 * length (now part)) ⌝ }
     ensures { λ r. ⌜ ((t : ℕ) → postingsSay t r ≡ keep (keptOf first) (postingsAt (now (part .entry)) docs t w start first n)) ⌝ }
 {

@@ -3,7 +3,7 @@ ghost use mathlib.Core.Path.{_≡_};
 ghost use Prim.Native.Nat.{ℕ, _*_, _≤_, _<_};
 ghost use lib.ListN.{length};
 ghost use Rattle.meaning.specs.Image.{blocksAt};
-ghost use Rattle.image.specs.Answers.{keep, listedOf, blocksSay};
+ghost use Rattle.image.specs.Answers.{keep, endedOf, blocksSay};
 
 // What judging the blocks of a list says.
 pub enum Blocks {
@@ -16,7 +16,7 @@ pub enum Blocks {
 // The blocks of `count` postings from bit `start` on.
 pub fn judge_blocks(image: &[u8], docs: u64, start: usize, count: usize) -> Blocks
     requires { ⌜ (docs < 16777216) × (length (now image) < 16777216) × (start ≤ 8 * length (now image)) ⌝ }
-    ensures { λ r. ⌜ ((t : ℕ) → blocksSay t r ≡ keep listedOf (blocksAt (now (image .entry)) docs t count start 0 count)) ⌝ }
+    ensures { λ r. ⌜ ((t : ℕ) → blocksSay t r ≡ keep endedOf (blocksAt (now (image .entry)) docs t count start 0 count)) ⌝ }
 {
     let mut bit = start;
     let mut next: u64 = 0;

@@ -8,9 +8,9 @@ use Rattle.meaning.specs.Judged.{Judged, _>>=_}
 use Rattle.meaning.specs.Image.{blockAt, blocksAt}
 use Rattle.bits.specs.Parts.{from-length}
 use Rattle.image.specs.declared.block.Block.{Block}
-use Rattle.image.specs.Answers.{keep, Taken, takenOf, blockSays, Listed, listedOf}
+use Rattle.image.specs.Answers.{keep, Taken, takenOf, blockSays, Ended, endedOf}
 use Rattle.image.specs.PartLaws.{block-part}
-use Rattle.image.specs.ListLaws.{Fits, listedFrom, block-fits, blocks-start, blocks-turn, blocks-end}
+use Rattle.image.specs.ListLaws.{Fits, endedFrom, block-fits, blocks-start, blocks-turn, blocks-end}
 use Rattle.image.proofs.list.judge_blocks.Statement.{statement}
 use Rattle.image.proofs.list.judge_blocks.Tie as tie
 
@@ -18,7 +18,7 @@ abbrev Inv-loop : tie.InvT-loop
 Inv-loop image docs start count bit₀ next₀ left₀ top₀ bit next left top =
     (bit ≤ 8 * length image)
     × (next ≤ docs)
-    × ((t : ℕ) → keep (listedFrom top) (blocksAt image docs t left bit next left) ≡ keep listedOf (blocksAt image docs t count start 0 count))
+    × ((t : ℕ) → keep (endedFrom top) (blocksAt image docs t left bit next left) ≡ keep endedOf (blocksAt image docs t count start 0 count))
 
 abbrev μ-loop : tie.MeasureT-loop
 μ-loop image docs start count bit₀ next₀ left₀ top₀ bit next left top = left
@@ -35,18 +35,18 @@ block c t =
     c .judge-block .ensures t ∙ block-part (a .image .now) (a .docs) t (l .loop .bit) (l .loop .next) (l .loop .left) (l .loop .inv .0)
 
 -- what is kept of the list after a block that takes k
-abbrev rest : tie.At-loop Inv-loop μ-loop → ℕ → Taken → Judged Listed
+abbrev rest : tie.At-loop Inv-loop μ-loop → ℕ → Taken → Judged Ended
 rest l t k =
     let a = l .before .before .args in
     let left = l .loop .left - k .postings in
-    keep (listedFrom (max (l .loop .top) (k .largest))) (blocksAt (a .image .now) (a .docs) t left (l .loop .bit + k .bits) (k .next) left)
+    keep (endedFrom (max (l .loop .top) (k .largest))) (blocksAt (a .image .now) (a .docs) t left (l .loop .bit + k .bits) (k .next) left)
 
 -- what is kept of the list, by the block at hand
 turn :
     (c : tie.After-judge-block Inv-loop μ-loop) (t : ℕ) (r : Block) → c .judge-block .result ≡ r →
     let l = c .before .before .before in
     let a = l .before .before .args in
-    keep listedOf (blocksAt (a .image .now) (a .docs) t (a .count) (a .start) 0 (a .count)) ≡ (blockSays t r >>= rest l t)
+    keep endedOf (blocksAt (a .image .now) (a .docs) t (a .count) (a .start) 0 (a .count)) ≡ (blockSays t r >>= rest l t)
 turn c t r e =
     let l = c .before .before .before in
     let a = l .before .before .args in
