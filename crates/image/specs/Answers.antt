@@ -3,11 +3,17 @@ use Prim.Native.Nat.{ℕ, _-_}
 use mathlib.Core.List.{List}
 use lib.ListN.{length}
 use Rattle.meaning.specs.Judged.{Judged, good, bad}
-use Rattle.meaning.specs.Image.{Posting, Part, nextOf, largestOf}
+use Rattle.meaning.specs.Image.{Posting, Part, Terms, nextOf, largestOf}
 use Rattle.image.specs.declared.block.Postings.{Postings}
 use Rattle.image.specs.declared.block.Postings.the-variants as postings
 use Rattle.image.specs.declared.block.Block.{Block}
 use Rattle.image.specs.declared.block.Block.the-variants as block
+use Rattle.image.specs.declared.list.Blocks.{Blocks}
+use Rattle.image.specs.declared.list.Blocks.the-variants as blocks
+use Rattle.image.specs.declared.directory.Listed.{Listed}
+use Rattle.image.specs.declared.directory.Listed.the-variants as listed
+use Rattle.image.specs.declared.directory.Lists.{Lists}
+use Rattle.image.specs.declared.directory.Lists.the-variants as lists
 
 -- a fault as it is, or f of what was read
 abbrev pub keep : {A B : Type 0} → (A → B) → Judged A → Judged B
@@ -40,3 +46,27 @@ takenOf i next b =
 abbrev pub blockSays : ℕ → Block → Judged Taken
 blockSays t (block.Wrong n) = bad n t
 blockSays t (block.Good bits postings next largest) = good (record { bits = bits; postings = postings; next = next; largest = largest })
+
+-- what is kept of a list: the bit after it, and its largest impact
+pub record Ended : Type 0 where
+  pub stop : ℕ
+  pub largest : ℕ
+
+abbrev pub endedOf : Part → Ended
+endedOf b = record { stop = b .stop; largest = largestOf (b .postings) }
+
+abbrev pub blocksSay : ℕ → Blocks → Judged Ended
+blocksSay t (blocks.Wrong n) = bad n t
+blocksSay t (blocks.Good stop largest) = good (record { stop = stop; largest = largest })
+
+-- what is kept of terms: the bit after the last list
+abbrev pub stopOf : Terms → ℕ
+stopOf r = r .stop
+
+abbrev pub listSays : ℕ → Listed → Judged ℕ
+listSays t (listed.Wrong n) = bad n t
+listSays t (listed.Good stop) = good stop
+
+abbrev pub listsSay : Lists → Judged ℕ
+listsSay (lists.Wrong n t) = bad n t
+listsSay (lists.Good stop) = good stop

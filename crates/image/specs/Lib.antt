@@ -1,5 +1,10 @@
 pub mod Fields
 pub mod Answers
+pub mod Verdict
 pub mod KeepLaws
 pub mod PostingLaws
 pub mod BlockLaws
+pub mod PartLaws
+pub mod ListLaws
+pub mod DirectoryLaws
+pub mod VerdictLaws

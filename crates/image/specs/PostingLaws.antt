@@ -53,8 +53,7 @@ module _ (s : List ℕ) (N t w i next : ℕ) where
       let p : Posting = record { doc = d; impact = a } in
       let rest = postingsAt s N t w (i + w + 8) (suc d) n in
       rw (gap, impact, less, add-one d)
-      (keep-need (ltb d N && ltb 0 a) 6 t (rest >>= λ ps. good (p ∷ ps)) (keptFrom top next)
-      ∙ ap (λ (m : Judged Kept). need (ltb d N && ltb 0 a) 6 t >>= λ _. m)
+      (keep-need (ltb d N && ltb 0 a) 6 t (keptFrom top next) (rest >>= λ ps. good (p ∷ ps)) _
       (keep-then rest (λ ps. p ∷ ps) (keptFrom top next)
       ∙ keep-same rest _ (keptFrom (max top a) (suc d))
       (λ ps. let m : max top (max a (largestOf ps)) ≡ max (max top a) (largestOf ps) = omega arith in rw m)))

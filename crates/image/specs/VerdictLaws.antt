@@ -1,0 +1,80 @@
+-- Laws of the verdict: the refusals in their order, and that no two verdicts are right for one image.
+use mathlib.Core.Path.{_≡_, refl, sym, ap, subst⁻¹, _∙_}
+use mathlib.Core.Bool.{Bool, true, false, _&&_}
+use mathlib.Core.List.{List}
+use Prim.Native.Nat.{ℕ, _+_, _-_, _*_, _≤_, _<_}
+use native.Mathlib.Omega.{arith}
+use lib.Dec.{leb, eqb}
+use lib.ListN.{length}
+use borrow.Author.Tests.{le-leb, lt-leb, eq-eqb, ne-eqb}
+use Rattle.meaning.specs.BitsLaws.{bits-lt}
+use Rattle.meaning.specs.Judged.{Judged, good, bad, _>>=_, need}
+use Rattle.meaning.specs.JudgedLaws.{good-same}
+use Rattle.meaning.specs.Layout.{Header, headerOf}
+use Rattle.meaning.specs.Image.{Terms, Index, termsAt, imageOf}
+use Rattle.image.specs.declared.Verdict.{Verdict}
+use Rattle.image.specs.declared.Verdict.the-variants.{Refused, Accepted}
+use Rattle.image.specs.Answers.{keep, stopOf}
+use Rattle.image.specs.Verdict.{Sizes, verdict, sizesOf, endsWell}
+use Rattle.image.specs.KeepLaws.{keep-need}
+use Rattle.image.specs.DirectoryLaws.{terms-whole}
+
+-- refusals 2, 3, those of the terms, and 8, of an image with header h
+abbrev pub judgedWith : List ℕ → Header → Judged Sizes
+judgedWith s h =
+    need (eqb (h .version) 1) 2 0
+    >>= λ _. (need (eqb (h .bytes) (length s) && leb (8 + 8 * h .terms) (length s)) 3 0
+    >>= λ _. (keep stopOf (termsAt s (h .docs) 0 (64 + 64 * h .terms) (h .terms))
+    >>= λ stop. (need (endsWell s stop) 8 (h .terms) >>= λ _. good (record { terms = h .terms; docs = h .docs }))))
+
+module _ (s : List ℕ) where
+  pub image-short : length s < 8 → sizesOf (imageOf s) ≡ bad 1 0
+  unfolding imageOf
+  image-short h = rw (lt-leb 8 (length s) h)
+
+  -- after the last list
+  last : (h : Header) (m : Judged Terms) → ((r : Terms) → m ≡ good r → length (r .terms) ≡ h .terms) →
+      sizesOf (m >>= λ r. (need (endsWell s (r .stop)) 8 (h .terms) >>= λ _. good (record { docs = h .docs; terms = r .terms })))
+      ≡ (keep stopOf m >>= λ stop. (need (endsWell s stop) 8 (h .terms) >>= λ _. good (record { terms = h .terms; docs = h .docs })))
+  last h (bad n p) count = refl
+  last h (good r) count = go (endsWell s (r .stop))
+    where
+      go : (b : Bool) →
+          sizesOf (need b 8 (h .terms) >>= λ _. good (record { docs = h .docs; terms = r .terms }))
+          ≡ (need b 8 (h .terms) >>= λ _. good (record { terms = h .terms; docs = h .docs }))
+      go false = refl
+      go true = rw (count r refl)
+
+  pub image-is : (h : Header) → h ≡ headerOf s → 8 ≤ length s → sizesOf (imageOf s) ≡ judgedWith s h
+  unfolding imageOf
+  image-is h q p =
+      let g = headerOf s in
+      let terms = termsAt s (g .docs) 0 (64 + 64 * g .terms) (g .terms) in
+      let sizes : Index → Sizes = λ ix. record { terms = length (ix .terms); docs = ix .docs } in
+      rw (q, le-leb 8 (length s) p)
+      (keep-need (eqb (g .version) 1) 2 0 sizes _ _
+      (keep-need (eqb (g .bytes) (length s) && leb (8 + 8 * g .terms) (length s)) 3 0 sizes _ _
+      (last g terms (λ r e. terms-whole s (g .docs) 0 (64 + 64 * g .terms) (g .terms) r e .count))))
+
+-- the bounds of a header's fields
+pub record Bounded (h : Header) : Type 0 where
+  pub terms : h .terms < 4096
+  pub docs : h .docs < 16777216
+  pub bytes : h .bytes < 16777216
+
+pub header-bounded : (s : List ℕ) (h : Header) → h ≡ headerOf s → Bounded h
+header-bounded s h e =
+    subst⁻¹ Bounded e
+    (record { terms = omega (arith, bits-lt s 4 12); docs = omega (arith, bits-lt s 16 24); bytes = omega (arith, bits-lt s 40 24) })
+
+-- no two verdicts are right for one image
+pub judge-only : (s : List ℕ) (a b : Verdict) → verdict a ≡ sizesOf (imageOf s) → verdict b ≡ sizesOf (imageOf s) → a ≡ b
+judge-only s a b p q = same a b (p ∙ sym q)
+  where
+    same : (a b : Verdict) → verdict a ≡ verdict b → a ≡ b
+    same (Refused n p) (Refused m q) e = cc
+    same (Refused n p) (Accepted t d) e = cc
+    same (Accepted t d) (Refused n p) e = cc
+    same (Accepted t d) (Accepted u f) e =
+        let sizes : _≡_ {A = Sizes} (record { terms = t; docs = d }) (record { terms = u; docs = f }) = good-same e in
+        cc (ap (λ (z : Sizes). z .terms) sizes, ap (λ (z : Sizes). z .docs) sizes)
