@@ -1,26 +1,30 @@
 -- A posting's gap and impact, out of the one number that they are read as.
 use Prim.Native.Nat.{ℕ, _+_, _-_, _/_, _%_, _^_, _≤_, _<_}
-use mathlib.Core.Path.{_≡_}
+use mathlib.Core.Path.{_≡_, ap}
 use mathlib.Core.List.{List}
 use native.Mathlib.Omega.{arith}
 use Rattle.meaning.specs.Bits.{bitsAt}
 use Rattle.meaning.specs.Image.{indexOf}
 use Rattle.bits.specs.BitsSplit.{bits-first, bits-second}
+use Rattle.cursor.specs.Steps.{takenBy, takenAt}
 use Rattle.cursor.specs.StepLaws.{Taking, taking}
+use Rattle.cursor.specs.declared.Cursor.{Cursor}
 use Rattle.cursor.proofs.take_posting.Statement.{statement}
 use Rattle.cursor.proofs.take_posting.Tie as tie
 
--- the two fields of a posting of `step` bits
-fields : (s : List ℕ) (i step x : ℕ) → 8 ≤ step → x ≡ bitsAt s i step → (x / 2 ^ 8 ≡ bitsAt s i (step - 8)) × (x % 2 ^ 8 ≡ bitsAt s (i + (step - 8)) 8)
-fields s i step x h e =
-    let w : step - 8 + 8 ≡ step = omega arith in
-    rw e (rw w at (bits-first s i (step - 8) 8), rw w at (bits-second s i (step - 8) 8))
+-- a posting's two fields, out of the number x that its bits are
+fields : (s : List ℕ) (c : Cursor) (x : ℕ) → 8 ≤ c .step → x ≡ bitsAt s (c .at) (c .step) → takenBy c (x / 2 ^ 8) (x % 2 ^ 8) ≡ takenAt s c
+fields s c x h e =
+    let w : c .step - 8 + 8 ≡ c .step = omega arith in
+    let gap = rw w at (bits-first s (c .at) (c .step - 8) 8) in
+    let impact = rw w at (bits-second s (c .at) (c .step - 8) 8) in
+    rw (e, gap, impact)
 
-read : (c : tie.After-bits-at) → let a = c .before .before .args in
-    (c .bits-at .result / 2 ^ 8 ≡ bitsAt (a .image .now) (a .c .at) (a .c .step - 8)) × (c .bits-at .result % 2 ^ 8 ≡ bitsAt (a .image .now) (a .c .at + (a .c .step - 8)) 8)
+read : (c : tie.After-bits-at) → let a = c .before .before .args in let x = c .bits-at .result in
+    takenBy (a .c) (x / 2 ^ 8) (x % 2 ^ 8) ≡ takenAt (a .image .now) (a .c)
 read c =
     let s = c .before .before in
-    fields (s .args .image .now) (s .args .c .at) (s .args .c .step) (c .bits-at .result) (s .pre .0 .step-least) (c .bits-at .ensures)
+    fields (s .args .image .now) (s .args .c) (c .bits-at .result) (s .pre .0 .step-least) (c .bits-at .ensures)
 
 next : (c : tie.Start) → Taking (c .args .image .now) (indexOf (c .args .image .now) .docs) (c .args .c)
 next c = taking (c .args .image .now) (indexOf (c .args .image .now) .docs) (c .args .c) (c .pre .0) (c .pre .1)
@@ -29,7 +33,7 @@ next c = taking (c .args .image .now) (indexOf (c .args .image .now) .docs) (c .
 small : (c : tie.After-bits-at) → c .before .before .args .c .past + c .bits-at .result / 2 ^ 8 + 1 < 16777216
 small c =
     let s = c .before .before in
-    omega (arith, read c .0, next s .below, s .pre .0 .few)
+    omega (arith, ap (λ (d : Cursor). d .past) (read c), next s .below, s .pre .0 .few)
 
 bits-at-requires : tie.Need-bits-at-requires
 bits-at-requires c κs = omega (arith, next (c .before) .room, c .before .pre .0 .step-most)
@@ -53,7 +57,7 @@ sub-t10 : tie.Need-sub-t10
 sub-t10 c = omega arith
 
 returns : tie.Need-returns
-returns c = let v = read (c .before .before .before) in rw (v .0, v .1)
+returns c = read (c .before .before .before)
 
 pub take-posting-spec : {M : Type 1} → statement M
 take-posting-spec =
