@@ -2,3 +2,4 @@ pub mod Verdict
 pub mod Extent
 pub mod Record
 pub mod QueryLaws
+pub mod Unique
