@@ -19,7 +19,7 @@ use Rattle.sheet.specs.declared.Extent.{Extent}
 use Rattle.sheet.specs.Verdict.{neededOf, roomed}
 use Rattle.sheet.specs.Extent.{fourAt, fairly, extentOf}
 use Rattle.sheet.specs.Record.{pairAt}
-use Rattle.sheet.specs.QueryLaws.{pairs-fit, query-fits}
+use Rattle.sheet.specs.QueryLaws.{only-good, only-bad, pairs-fit, query-fits}
 
 -- what the test of a range told, where the code takes its contrary
 pub in-range : (r t : Bool) → r ≡ t → not r ≡ false → t ≡ true
@@ -118,7 +118,7 @@ same-extent (good ps) m k b n h = rw (h ps refl)
 same-extent (bad number place) m k b n h = refl
 
 module _ (s : List ℕ) (T i at : ℕ) where
-  pub query-parts : (fourAt s i at >>= λ e. fairly e (pairsAt s T i (at + 4) (e .q))) ≡ extentOf (queryAt s T i at)
+  query-parts : (fourAt s i at >>= λ e. fairly e (pairsAt s T i (at + 4) (e .q))) ≡ extentOf (queryAt s T i at)
   unfolding fourAt queryAt extentOf
   query-parts =
       let n = getD s (at + 3) 0 in
@@ -130,18 +130,11 @@ module _ (s : List ℕ) (T i at : ℕ) where
       (same-extent (pairsAt s T i (at + 4) n) (modeOf (getD s at 0)) (getD s (at + 1) 0) (getD s (at + 2) 0) n
       (λ ps e. pairs-fit s T i (at + 4) n ps e .1))))))
 
-  pub query-bad : (number place : ℕ) → bad number place ≡ fourAt s i at → bad number place ≡ extentOf (queryAt s T i at)
-  query-bad number place h = ap (λ (j : Judged Extent). j >>= λ e. fairly e (pairsAt s T i (at + 4) (e .q))) h ∙ query-parts
-
-  pub query-rest : (e : Extent) → good e ≡ fourAt s i at → fairly e (pairsAt s T i (at + 4) (e .q)) ≡ extentOf (queryAt s T i at)
-  query-rest e h = ap (λ (j : Judged Extent). j >>= λ e. fairly e (pairsAt s T i (at + 4) (e .q))) h ∙ query-parts
+  pub query-by :
+      (j : Judged Extent) → j ≡ fourAt s i at → (j >>= λ e. fairly e (pairsAt s T i (at + 4) (e .q))) ≡ extentOf (queryAt s T i at)
+  query-by j h = rw h query-parts
 
 -- what a query's extent says of the query
-pub extent-bad : (j : Judged Query) (number place : ℕ) → bad number place ≡ extentOf j → j ≡ bad number place
-unfolding extentOf
-extent-bad (good q) number place e = absurd (let z : _≡_ {A = ℕ} 0 1 = cc in omega arith)
-extent-bad (bad n p) number place e = cc
-
 pub record Told (s : List ℕ) (T i at : ℕ) (e : Extent) : Type 0 where
   pub query : Query
   pub fine : queryAt s T i at ≡ good query
@@ -150,18 +143,14 @@ pub record Told (s : List ℕ) (T i at : ℕ) (e : Extent) : Type 0 where
   pub q-high : e .q ≤ 16
   pub inside : at + 4 + 2 * e .q ≤ length s
 
-extent-good : (j : Judged Query) (e : Extent) → good e ≡ extentOf j → (q : Query) × (j ≡ good q) × (e ≡ record { k = q .k; q = length (q .pairs) })
-unfolding extentOf
-extent-good (good q) e h = (q, refl, good-same h)
-extent-good (bad n p) e h = absurd (let z : _≡_ {A = ℕ} 0 1 = cc in omega arith)
-
 pub told : (s : List ℕ) (T i at : ℕ) (e : Extent) → good e ≡ extentOf (queryAt s T i at) → Told s T i at e
+unfolding extentOf
 told s T i at e h =
-    let x = extent-good (queryAt s T i at) e h in
+    let x = only-good (queryAt s T i at) _ e h in
     let f = query-fits s T i at (x .0) (x .1) in
-    let k : e .k ≡ x .0 .k = ap (λ (y : Extent). y .k) (x .2) in
-    let n : e .q ≡ length (x .0 .pairs) = ap (λ (y : Extent). y .q) (x .2) in
-    record { query = x .0; fine = x .1; same = x .2; k-high = omega arith; q-high = omega arith; inside = omega arith }
+    let k : e .k ≡ x .0 .k = ap (λ (y : Extent). y .k) (sym (x .2)) in
+    let n : e .q ≡ length (x .0 .pairs) = ap (λ (y : Extent). y .q) (sym (x .2)) in
+    record { query = x .0; fine = x .1; same = sym (x .2); k-high = omega arith; q-high = omega arith; inside = omega arith }
 
 -- the queries that are left, where those before them fill `filled` numbers
 unfoldable pub neededFrom : ℕ → Judged (List Query) → Judged ℕ
@@ -186,9 +175,9 @@ module _ (s : List ℕ) (T i at filled : ℕ) where
   pub query-refused :
       (n number place : ℕ) → 0 < n → bad number place ≡ extentOf (queryAt s T i at) →
       neededFrom filled (queriesAt s T i at n) ≡ bad number place
-  unfolding neededFrom queriesAt
+  unfolding neededFrom queriesAt extentOf
   query-refused zero number place some h = absurd (omega arith)
-  query-refused (suc n) number place some h = rw (extent-bad (queryAt s T i at) number place h)
+  query-refused (suc n) number place some h = rw (only-bad (queryAt s T i at) _ number place h)
 
   pub query-on :
       (n : ℕ) (e : Extent) → 0 < n → Told s T i at e →

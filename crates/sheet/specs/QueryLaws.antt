@@ -8,15 +8,27 @@ use native.Mathlib.Omega.{arith}
 use lib.ListN.{length, getD, take}
 use lib.Dec.{ltb, leb, eqb}
 use borrow.Author.Tests.{ltb-true, leb-true}
-use Rattle.meaning.specs.Judged.{good}
+use Rattle.meaning.specs.Judged.{Judged, good, bad, _>>=_}
 use Rattle.meaning.specs.JudgedLaws.{bind-good, need-good, good-same}
 use Rattle.meaning.specs.Sheet.{Pair, Query, within, pairsAt, queryAt, queriesAt, sheetOf}
 use Rattle.meaning.specs.SheetFits.{Within, PairFits, PairsFit, QueryFits, QueriesFit}
-use Rattle.meaning.specs.SheetLaws.{within-true, numbersOf, pair-at}
+use Rattle.meaning.specs.SheetLaws.{within-true, numbersOf, pair-at, sheet-good, query-at}
 use Rattle.meaning.specs.Call.{needed}
 use Rattle.sheet.specs.declared.Record.{Record}
+use Rattle.sheet.specs.Verdict.{neededOf}
 use Rattle.sheet.specs.Record.{Readable, IsRecord, pairAt, pairsFrom, queryFrom, recordOf}
 
+-- where a reading is carried on with no further test, its fault is the fault, and what is accepted comes of what was read
+pub only-good : {A B : Type 0} (j : Judged A) (f : A → B) (b : B) → good b ≡ (j >>= λ a. good (f a)) → (a : A) × (j ≡ good a) × (f a ≡ b)
+only-good j f b e =
+    let x = bind-good j _ (sym e) in
+    (x .0, x .1, good-same (x .2))
+
+pub only-bad : {A B : Type 0} (j : Judged A) (f : A → B) (number place : ℕ) → bad number place ≡ (j >>= λ a. good (f a)) → j ≡ bad number place
+only-bad (good a) f number place e = absurd (let z : _≡_ {A = ℕ} 0 1 = cc in omega arith)
+only-bad (bad n p) f number place e = cc
+
+-- pairs and a query without fault fit
 module _ (s : List ℕ) (T i : ℕ) where
   pub pairs-fit : (at q : ℕ) (ps : List Pair) → pairsAt s T i at q ≡ good ps → PairsFit s T at ps × (length ps ≡ q)
   unfolding pairsAt
@@ -26,9 +38,7 @@ module _ (s : List ℕ) (T i : ℕ) where
       let b = need-good (within 1 255 (getD s (at + 1) 0)) 14 i _ (a .1) in
       let c = bind-good (pairsAt s T i (at + 2) q) _ (b .1) in
       let r = pairs-fit (at + 2) q (c .0) (c .1) in
-      let p : PairFits s T at (pairAt s at) =
-      record { term = refl; weight = refl; below = ltb-true _ _ (a .0); weighs = within-true 1 255 _ (b .0) }
-      in
+      let p : PairFits s T at (pairAt s at) = record { term = refl; weight = refl; below = ltb-true _ _ (a .0); weighs = within-true 1 255 _ (b .0) } in
       rw (← good-same (c .2)) ((p, r .0), ap suc (r .1))
 
   pub query-fits : (at : ℕ) (q : Query) → queryAt s T i at ≡ good q → QueryFits s T at q
@@ -84,6 +94,10 @@ module _ (s : List ℕ) where
       let f = query-fits s T i at q e in
       rw (← f .mode, ← f .k, ← f .budget, ← f .count, pairs-are T (at + 4) (q .pairs) (f .pairs))
 
+  -- a record has as many terms as the query that it stands for
+  pub record-terms : (r : Record) (q : Query) → recordOf s r ≡ q → r .q ≡ length (q .pairs)
+  record-terms r q e = sym (pairs-length (r .pairs) (r .q)) ∙ ap (λ (x : Query). length (x .pairs)) e
+
 -- what is known of a record that was read from a sheet for T terms
 pub record RecordFits (s : List ℕ) (T : ℕ) (r : Record) : Type 0 where
   pub rows : Within 1 64 (r .k)
@@ -98,7 +112,7 @@ record-fits s T i at q r e is =
     let same : recordOf s r ≡ q = is .0 T i q e in
     let ps : pairsFrom s (r .pairs) (r .q) ≡ q .pairs = ap (λ (x : Query). x .pairs) same in
     let k : r .k ≡ q .k = ap (λ (x : Query). x .k) same in
-    let n : r .q ≡ length (q .pairs) = sym (pairs-length s (r .pairs) (r .q)) ∙ ap length ps in
+    let n = record-terms s r q same in
     record {
       rows = omega arith;
       terms = omega arith;
@@ -157,19 +171,23 @@ module _ (s : List ℕ) (T : ℕ) where
       let x = need-good (within 1 64 (getD s 0 0)) 9 0 _ e in
       rw (zero-add i) at (queries-here 0 1 (getD s 0 0) qs (x .1) i h d)
 
+  -- an accepted sheet has a first number
+  pub sheet-some : (qs : List Query) → sheetOf s T ≡ good qs → 0 < length s
+  sheet-some qs e =
+      let some = sheet-good s T qs e .some in
+      omega (arith, query-at s T qs e 0 (omega arith) (queryFrom s 0) .four)
+
   -- no query fills more than 131 numbers
   pub needed-bound : (at : ℕ) (qs : List Query) → QueriesFit s T at qs → needed qs ≤ 131 * length qs
   unfolding needed
   needed-bound at [] f = omega arith
   needed-bound at (q ∷ qs) f = omega (arith, f .0 .rows, needed-bound (at + 4 + 2 * length (q .pairs)) qs (f .1))
 
--- the next query stands after this one's four numbers and pairs
-pub numbers-next :
-    (qs : List Query) (i : ℕ) → i < length qs → (d : Query) →
-    numbersOf (take (i + 1) qs) ≡ numbersOf (take i qs) + (4 + 2 * length (getD qs i d .pairs))
-unfolding numbersOf
-numbers-next [] i h d = absurd (omega arith)
-numbers-next (q ∷ qs) zero h d = omega arith
-numbers-next (q ∷ qs) (suc i) h d =
-    let e : suc i + 1 ≡ suc (i + 1) = omega arith in
-    rw e (omega (arith, numbers-next qs i (omega arith) d))
+-- what a judged sheet's count says of the sheet, and what its fault does
+pub needed-good : (j : Judged (List Query)) (count : ℕ) → good count ≡ neededOf j → (qs : List Query) × (j ≡ good qs) × (needed qs ≡ count)
+unfolding neededOf
+needed-good j count e = only-good j needed count e
+
+pub needed-bad : (j : Judged (List Query)) (number place : ℕ) → bad number place ≡ neededOf j → j ≡ bad number place
+unfolding neededOf
+needed-bad j number place e = only-bad j needed number place e

@@ -3,7 +3,6 @@ use mathlib.Core.Path.{_≡_, sym, ap, _∙_}
 use mathlib.Core.List.{List}
 use Prim.Native.Nat.{ℕ}
 use native.Mathlib.Omega.{arith}
-use lib.ListN.{length}
 use Rattle.meaning.specs.Sheet.{Query, sheetOf}
 use Rattle.meaning.specs.declared.Mode.{Mode}
 use Rattle.sheet.specs.declared.Verdict.{Verdict}
@@ -11,7 +10,7 @@ use Rattle.sheet.specs.declared.Verdict.the-variants.{Refused, Accepted}
 use Rattle.sheet.specs.declared.Record.{Record}
 use Rattle.sheet.specs.Verdict.{verdict, neededOf, roomed}
 use Rattle.sheet.specs.Record.{Readable, IsRecord, recordOf}
-use Rattle.sheet.specs.QueryLaws.{pairs-length}
+use Rattle.sheet.specs.QueryLaws.{pairs-length, record-terms}
 
 -- two verdicts that say the same are the same
 pub verdict-same : (v w : Verdict) → verdict v ≡ verdict w → v ≡ w
@@ -34,9 +33,7 @@ record-same s r t e p =
     let m : r .mode ≡ t .mode = ap (λ (x : Query). x .mode) e in
     let k : r .k ≡ t .k = ap (λ (x : Query). x .k) e in
     let b : r .budget ≡ t .budget = ap (λ (x : Query). x .budget) e in
-    let n : r .q ≡ t .q =
-    sym (pairs-length s (r .pairs) (r .q)) ∙ ap (λ (x : Query). length (x .pairs)) e ∙ pairs-length s (t .pairs) (t .q)
-    in
+    let n : r .q ≡ t .q = record-terms s r (recordOf s t) e ∙ pairs-length s (t .pairs) (t .q) in
     let same : _≡_ {A = Record} (made (r .mode) (r .k) (r .budget) (r .q) (r .pairs)) (made (t .mode) (t .k) (t .budget) (t .q) (t .pairs)) = cc in
     same
   where

@@ -1,7 +1,7 @@
 // A sheet of 32-bit numbers: judged by refusals 9 to 15 in reading order, and a query's record read from it
 // (document 01, "The sheet and the answer row").
 ghost use mathlib.Core.Path.{_≡_};
-ghost use Prim.Native.Nat.{ℕ, _+_, _*_, _≤_};
+ghost use Prim.Native.Nat.{_+_, _*_, _≤_};
 ghost use lib.ListN.{length};
 ghost use Rattle.meaning.specs.Sheet.{within, modeOf, pairsAt, queryAt, queriesAt, sheetOf};
 ghost use Rattle.sheet.specs.Verdict.{verdict, neededOf, roomed};

@@ -1,6 +1,5 @@
 -- `sheet::judge` judges a whole sheet: its first number, and then its queries. Assumes nothing.
 use mathlib.Core.Path.{_∙_}
-use Prim.Native.Nat.{_-_}
 use native.Mathlib.Omega.{arith}
 use lib.ListN.{getD}
 use borrow.Author.Needs.{needs}
