@@ -1,14 +1,14 @@
 -- Judging a sheet step by step, as the code goes: one law for each way through a query's four numbers, a pair, a query, and the end of a sheet.
 use mathlib.Core.Path.{_≡_, refl, sym, ap, _∙_}
-use mathlib.Core.Bool.{Bool, true, false}
-use mathlib.Core.List.{List, [], _∷_}
+use mathlib.Core.Bool.{Bool, true, false, not}
+use mathlib.Core.List.{List, _∷_}
 use Prim.Native.Nat.{ℕ, zero, suc, _+_, _*_, _-_, _≤_, _<_}
 use native.Mathlib.Omega.{arith}
 use native.Mathlib.Nat.{zero-add, add-zero}
 use native.Mathlib.Numerals.{add-one}
 use lib.ListN.{length, getD, List·getD-eq-default}
-use lib.Dec.{ltb, leb, eqb}
-use borrow.Author.Tests.{lt-ltb, le-ltb, le-leb, lt-leb, eq-eqb, ne-eqb, leb-true}
+use lib.Dec.{leb}
+use borrow.Author.Tests.{lt-ltb, le-ltb, le-leb, lt-leb, eq-eqb, ne-eqb, leb-true, not-true, not-false}
 use Rattle.meaning.specs.Judged.{Judged, good, bad, _>>=_, need}
 use Rattle.meaning.specs.JudgedLaws.{need-good, good-same}
 use Rattle.meaning.specs.Sheet.{Pair, Query, within, modeOf, pairsAt, queryAt, queriesAt, sheetOf}
@@ -18,13 +18,21 @@ use Rattle.meaning.specs.declared.Mode.the-variants.{Plain, Pruned, All}
 use Rattle.sheet.specs.declared.Extent.{Extent}
 use Rattle.sheet.specs.Verdict.{neededOf, roomed}
 use Rattle.sheet.specs.Extent.{fourAt, fairly, extentOf}
-use Rattle.sheet.specs.QueryLaws.{pairs-length, pairs-good, query-fair}
+use Rattle.sheet.specs.Record.{pairAt}
+use Rattle.sheet.specs.QueryLaws.{only-good, only-bad, pairs-fit, query-fits}
+
+-- what the test of a range told, where the code takes its contrary
+pub in-range : (r t : Bool) → r ≡ t → not r ≡ false → t ≡ true
+in-range r t e h = sym e ∙ not-false r h
+
+pub out-of-range : (r t : Bool) → r ≡ t → not r ≡ true → t ≡ false
+out-of-range r t e h = sym e ∙ not-true r h
 
 -- a query's four numbers
 module _ (s : List ℕ) (i at : ℕ) where
   pub missing : length s < at + 4 → bad 9 i ≡ fourAt s i at
   unfolding fourAt
-  missing h = simp (le-leb, lt-leb)
+  missing h = simp (lt-leb (at + 4) (length s) h)
 
   module _ (a : at + 4 ≤ length s) where
     pub mode-off : 2 < getD s at 0 → bad 10 i ≡ fourAt s i at
@@ -32,35 +40,25 @@ module _ (s : List ℕ) (i at : ℕ) where
     mode-off h = simp (le-leb, lt-leb)
 
     module _ (b : getD s at 0 ≤ 2) where
-      pub k-low : getD s (at + 1) 0 < 1 → bad 11 i ≡ fourAt s i at
+      pub k-off : within 1 64 (getD s (at + 1) 0) ≡ false → bad 11 i ≡ fourAt s i at
       unfolding fourAt
-      k-low h = simp (le-leb, lt-leb)
+      k-off h = simp (le-leb, h)
 
-      module _ (c : 1 ≤ getD s (at + 1) 0) where
-        pub k-high : 64 < getD s (at + 1) 0 → bad 11 i ≡ fourAt s i at
+      module _ (c : within 1 64 (getD s (at + 1) 0) ≡ true) where
+        pub q-off : within 1 16 (getD s (at + 3) 0) ≡ false → bad 12 i ≡ fourAt s i at
         unfolding fourAt
-        k-high h = simp (le-leb, lt-leb)
+        q-off h = simp (le-leb, c, h)
 
-        module _ (d : getD s (at + 1) 0 ≤ 64) where
-          pub q-low : getD s (at + 3) 0 < 1 → bad 12 i ≡ fourAt s i at
+        module _ (d : within 1 16 (getD s (at + 3) 0) ≡ true) where
+          pub pairs-missing : length s < at + 4 + 2 * getD s (at + 3) 0 → bad 9 i ≡ fourAt s i at
           unfolding fourAt
-          q-low h = simp (le-leb, lt-leb)
+          pairs-missing h = simp (le-leb, c, d, lt-leb)
 
-          module _ (e : 1 ≤ getD s (at + 3) 0) where
-            pub q-high : 16 < getD s (at + 3) 0 → bad 12 i ≡ fourAt s i at
-            unfolding fourAt
-            q-high h = simp (le-leb, lt-leb)
-
-            module _ (f : getD s (at + 3) 0 ≤ 16) where
-              pub pairs-missing : length s < at + 4 + 2 * getD s (at + 3) 0 → bad 9 i ≡ fourAt s i at
-              unfolding fourAt
-              pairs-missing h = simp (le-leb, lt-leb)
-
-              pub four-fine :
-                  at + 4 + 2 * getD s (at + 3) 0 ≤ length s →
-                  good (record { k = getD s (at + 1) 0; q = getD s (at + 3) 0 }) ≡ fourAt s i at
-              unfolding fourAt
-              four-fine h = simp (le-leb, lt-leb)
+          pub four-fine :
+              at + 4 + 2 * getD s (at + 3) 0 ≤ length s →
+              good (record { k = getD s (at + 1) 0; q = getD s (at + 3) 0 }) ≡ fourAt s i at
+          unfolding fourAt
+          four-fine h = simp (le-leb, c, d)
 
   -- and where they have no fault, the pairs are there
   pub four-inside : (e : Extent) → good e ≡ fourAt s i at → at + 4 + 2 * e .q ≤ length s
@@ -91,25 +89,19 @@ module _ (s : List ℕ) (T i : ℕ) (e : Extent) (at : ℕ) where
   term-off (suc n) some h = simp (le-ltb)
 
   module _ (t : getD s at 0 < T) where
-    pub weight-low : (left : ℕ) → 0 < left → getD s (at + 1) 0 < 1 → fairly e (pairsAt s T i at left) ≡ bad 14 i
+    pub weight-off : (left : ℕ) → 0 < left → within 1 255 (getD s (at + 1) 0) ≡ false → fairly e (pairsAt s T i at left) ≡ bad 14 i
     unfolding fairly pairsAt
-    weight-low zero some h = absurd (omega arith)
-    weight-low (suc n) some h = simp (lt-ltb, lt-leb)
+    weight-off zero some h = absurd (omega arith)
+    weight-off (suc n) some h = simp (lt-ltb, h)
 
-    module _ (w : 1 ≤ getD s (at + 1) 0) where
-      pub weight-high : (left : ℕ) → 0 < left → 255 < getD s (at + 1) 0 → fairly e (pairsAt s T i at left) ≡ bad 14 i
-      unfolding fairly pairsAt
-      weight-high zero some h = absurd (omega arith)
-      weight-high (suc n) some h = simp (lt-ltb, le-leb, lt-leb)
-
-      pub pair-on :
-          (left : ℕ) → 0 < left → getD s (at + 1) 0 ≤ 255 →
-          fairly e (pairsAt s T i at left) ≡ fairly e (pairsAt s T i (at + 2) (left - 1))
-      unfolding pairsAt
-      pair-on zero some h = absurd (omega arith)
-      pair-on (suc n) some h =
-          let p : suc n - 1 ≡ n = omega arith in
-          simp (lt-ltb, le-leb, p) (fairly-more (pairsAt s T i (at + 2) n) (record { term = getD s at 0; weight = getD s (at + 1) 0 }))
+    pub pair-on :
+        (left : ℕ) → 0 < left → within 1 255 (getD s (at + 1) 0) ≡ true →
+        fairly e (pairsAt s T i at left) ≡ fairly e (pairsAt s T i (at + 2) (left - 1))
+    unfolding pairsAt
+    pair-on zero some h = absurd (omega arith)
+    pair-on (suc n) some h =
+        let p : suc n - 1 ≡ n = omega arith in
+        simp (lt-ltb, h, p) (fairly-more (pairsAt s T i (at + 2) n) (pairAt s at))
 
 -- a query: its four numbers, and then its pairs
 need-alike :
@@ -126,7 +118,7 @@ same-extent (good ps) m k b n h = rw (h ps refl)
 same-extent (bad number place) m k b n h = refl
 
 module _ (s : List ℕ) (T i at : ℕ) where
-  pub query-parts : (fourAt s i at >>= λ e. fairly e (pairsAt s T i (at + 4) (e .q))) ≡ extentOf (queryAt s T i at)
+  query-parts : (fourAt s i at >>= λ e. fairly e (pairsAt s T i (at + 4) (e .q))) ≡ extentOf (queryAt s T i at)
   unfolding fourAt queryAt extentOf
   query-parts =
       let n = getD s (at + 3) 0 in
@@ -136,20 +128,13 @@ module _ (s : List ℕ) (T i at : ℕ) where
       (need-alike (within 1 16 n) 12 i _ _ _ _
       (need-alike (leb (at + 4 + 2 * n) (length s)) 9 i _ _ _ _
       (same-extent (pairsAt s T i (at + 4) n) (modeOf (getD s at 0)) (getD s (at + 1) 0) (getD s (at + 2) 0) n
-      (λ ps e. ap length (sym (pairs-good s T i (at + 4) n ps e)) ∙ pairs-length s (at + 4) n))))))
+      (λ ps e. pairs-fit s T i (at + 4) n ps e .1))))))
 
-  pub query-bad : (number place : ℕ) → bad number place ≡ fourAt s i at → bad number place ≡ extentOf (queryAt s T i at)
-  query-bad number place h = ap (λ (j : Judged Extent). j >>= λ e. fairly e (pairsAt s T i (at + 4) (e .q))) h ∙ query-parts
-
-  pub query-rest : (e : Extent) → good e ≡ fourAt s i at → fairly e (pairsAt s T i (at + 4) (e .q)) ≡ extentOf (queryAt s T i at)
-  query-rest e h = ap (λ (j : Judged Extent). j >>= λ e. fairly e (pairsAt s T i (at + 4) (e .q))) h ∙ query-parts
+  pub query-by :
+      (j : Judged Extent) → j ≡ fourAt s i at → (j >>= λ e. fairly e (pairsAt s T i (at + 4) (e .q))) ≡ extentOf (queryAt s T i at)
+  query-by j h = rw h query-parts
 
 -- what a query's extent says of the query
-pub extent-bad : (j : Judged Query) (number place : ℕ) → bad number place ≡ extentOf j → j ≡ bad number place
-unfolding extentOf
-extent-bad (good q) number place e = absurd (let z : _≡_ {A = ℕ} 0 1 = cc in omega arith)
-extent-bad (bad n p) number place e = cc
-
 pub record Told (s : List ℕ) (T i at : ℕ) (e : Extent) : Type 0 where
   pub query : Query
   pub fine : queryAt s T i at ≡ good query
@@ -158,18 +143,14 @@ pub record Told (s : List ℕ) (T i at : ℕ) (e : Extent) : Type 0 where
   pub q-high : e .q ≤ 16
   pub inside : at + 4 + 2 * e .q ≤ length s
 
-extent-good : (j : Judged Query) (e : Extent) → good e ≡ extentOf j → (q : Query) × (j ≡ good q) × (e ≡ record { k = q .k; q = length (q .pairs) })
-unfolding extentOf
-extent-good (good q) e h = (q, refl, good-same h)
-extent-good (bad n p) e h = absurd (let z : _≡_ {A = ℕ} 0 1 = cc in omega arith)
-
 pub told : (s : List ℕ) (T i at : ℕ) (e : Extent) → good e ≡ extentOf (queryAt s T i at) → Told s T i at e
+unfolding extentOf
 told s T i at e h =
-    let x = extent-good (queryAt s T i at) e h in
-    let f = query-fair s T i at (x .0) (x .1) in
-    let k : e .k ≡ x .0 .k = ap (λ (y : Extent). y .k) (x .2) in
-    let n : e .q ≡ length (x .0 .pairs) = ap (λ (y : Extent). y .q) (x .2) in
-    record { query = x .0; fine = x .1; same = x .2; k-high = omega arith; q-high = omega arith; inside = omega arith }
+    let x = only-good (queryAt s T i at) _ e h in
+    let f = query-fits s T i at (x .0) (x .1) in
+    let k : e .k ≡ x .0 .k = ap (λ (y : Extent). y .k) (sym (x .2)) in
+    let n : e .q ≡ length (x .0 .pairs) = ap (λ (y : Extent). y .q) (sym (x .2)) in
+    record { query = x .0; fine = x .1; same = sym (x .2); k-high = omega arith; q-high = omega arith; inside = omega arith }
 
 -- the queries that are left, where those before them fill `filled` numbers
 unfoldable pub neededFrom : ℕ → Judged (List Query) → Judged ℕ
@@ -194,9 +175,9 @@ module _ (s : List ℕ) (T i at filled : ℕ) where
   pub query-refused :
       (n number place : ℕ) → 0 < n → bad number place ≡ extentOf (queryAt s T i at) →
       neededFrom filled (queriesAt s T i at n) ≡ bad number place
-  unfolding neededFrom queriesAt
+  unfolding neededFrom queriesAt extentOf
   query-refused zero number place some h = absurd (omega arith)
-  query-refused (suc n) number place some h = rw (extent-bad (queryAt s T i at) number place h)
+  query-refused (suc n) number place some h = rw (only-bad (queryAt s T i at) _ number place h)
 
   pub query-on :
       (n : ℕ) (e : Extent) → 0 < n → Told s T i at e →
@@ -223,18 +204,21 @@ module _ (s : List ℕ) (T : ℕ) where
   unfolding neededOf sheetOf
   no-number h = simp (List·getD-eq-default s 0 {n = 0} (omega arith))
 
-  pub count-low : getD s 0 0 < 1 → bad 9 0 ≡ neededOf (sheetOf s T)
+  pub count-off : within 1 64 (getD s 0 0) ≡ false → bad 9 0 ≡ neededOf (sheetOf s T)
   unfolding neededOf sheetOf
-  count-low h = simp (le-leb, lt-leb)
+  count-off h = simp h
 
-  module _ (l : 1 ≤ getD s 0 0) where
-    pub count-high : 64 < getD s 0 0 → bad 9 0 ≡ neededOf (sheetOf s T)
-    unfolding neededOf sheetOf
-    count-high h = simp (le-leb, lt-leb)
+  pub count-fine : (n : ℕ) → n ≡ getD s 0 0 → within 1 64 (getD s 0 0) ≡ true → neededOf (queriesAt s T 0 1 n) ≡ neededOf (sheetOf s T)
+  unfolding sheetOf
+  count-fine n e h = rw e (simp h)
 
-    pub count-fine : getD s 0 0 ≤ 64 → neededOf (queriesAt s T 0 1 (getD s 0 0)) ≡ neededOf (sheetOf s T)
-    unfolding sheetOf
-    count-fine h = simp (le-leb, lt-leb)
+-- the test of a range
+module _ (low high n : ℕ) where
+  pub too-low : n < low → false ≡ within low high n
+  too-low h = simp (lt-leb low n h)
+
+  pub high-enough : low ≤ n → leb n high ≡ within low high n
+  high-enough h = simp (le-leb low n h)
 
 -- the kind that a mode's number names
 pub mode-plain : (n : ℕ) → n ≡ 0 → Plain ≡ modeOf n

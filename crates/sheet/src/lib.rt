@@ -1,10 +1,9 @@
 // A sheet of 32-bit numbers: judged by refusals 9 to 15 in reading order, and a query's record read from it
 // (document 01, "The sheet and the answer row").
 ghost use mathlib.Core.Path.{_≡_};
-ghost use Prim.Native.Nat.{ℕ, _+_, _*_, _≤_};
+ghost use Prim.Native.Nat.{_+_, _*_, _≤_};
 ghost use lib.ListN.{length};
-ghost use Rattle.meaning.specs.Judged.{good};
-ghost use Rattle.meaning.specs.Sheet.{Query, modeOf, pairsAt, queryAt, queriesAt, sheetOf};
+ghost use Rattle.meaning.specs.Sheet.{within, modeOf, pairsAt, queryAt, queriesAt, sheetOf};
 ghost use Rattle.sheet.specs.Verdict.{verdict, neededOf, roomed};
 ghost use Rattle.sheet.specs.Extent.{asked, fourAt, fairly, extentOf};
 ghost use Rattle.sheet.specs.Record.{Readable, IsRecord};
@@ -43,6 +42,15 @@ fn wide(x: u32) -> usize
     x as usize
 }
 
+fn is_within(low: u32, high: u32, n: u32) -> bool
+    ensures { λ r. ⌜ r ≡ within low high n ⌝ }
+{
+    if n < low {
+        return false;
+    }
+    n <= high
+}
+
 // The four numbers of query i from number `at` on: "9 if any is missing", 10, 11, 12, and 9 where its pairs are not all there.
 fn four(sheet: &[u32], i: usize, at: usize) -> Asked
     requires { ⌜ at ≤ length (now sheet) ⌝ }
@@ -55,24 +63,21 @@ fn four(sheet: &[u32], i: usize, at: usize) -> Asked
     if 2 < sheet[at] {
         return Asked::Refused(10, i);
     }
-    let k = wide(sheet[at + 1]);
-    if k < 1 {
+    let k = sheet[at + 1];
+    if !is_within(1, 64, k) {
         return Asked::Refused(11, i);
     }
-    if 64 < k {
-        return Asked::Refused(11, i);
-    }
-    let q = wide(sheet[at + 3]);
-    if q < 1 {
+    let q = sheet[at + 3];
+    if !is_within(1, 16, q) {
         return Asked::Refused(12, i);
     }
-    if 16 < q {
-        return Asked::Refused(12, i);
-    }
-    if left - 4 < 2 * q {
+    if left - 4 < 2 * wide(q) {
         return Asked::Refused(9, i);
     }
-    Asked::Fine(Extent { k, q })
+    Asked::Fine(Extent {
+        k: wide(k),
+        q: wide(q),
+    })
 }
 
 // The pairs of query i from number `start` on: "pair by pair 13 before 14".
@@ -83,14 +88,12 @@ fn pairs(sheet: &[u32], terms: usize, i: usize, start: usize, e: Extent) -> Aske
     let mut at = start;
     let mut left = e.q;
     while 0 < left {
-        if terms <= wide(sheet[at]) {
+        let term = wide(sheet[at]);
+        let fair = is_within(1, 255, sheet[at + 1]);
+        if terms <= term {
             return Asked::Refused(13, i);
         }
-        let weight = sheet[at + 1];
-        if weight < 1 {
-            return Asked::Refused(14, i);
-        }
-        if 255 < weight {
+        if !fair {
             return Asked::Refused(14, i);
         }
         at += 2;
@@ -146,14 +149,11 @@ pub fn judge(sheet: &[u32], terms: usize) -> Verdict
     if sheet.len() == 0 {
         return Verdict::Refused(9, 0);
     }
-    let n = wide(sheet[0]);
-    if n < 1 {
+    let n = sheet[0];
+    if !is_within(1, 64, n) {
         return Verdict::Refused(9, 0);
     }
-    if 64 < n {
-        return Verdict::Refused(9, 0);
-    }
-    queries(sheet, terms, n)
+    queries(sheet, terms, wide(n))
 }
 
 // Refusal 15, the last of all: the count where the answer row has room for it.

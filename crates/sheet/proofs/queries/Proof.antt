@@ -85,7 +85,7 @@ returns-2 : tie.Need-returns-2 Inv-loop μ-loop
 returns-2 c =
     let l = c .before .before in
     let z : l .before .before .args .n - l .loop .i ≡ 0 = omega arith in
-    sym (sheet-ends _ _ _ _ (l .loop .needed) (c .if1 .taken)) ∙ rw z at (l .loop .inv .3)
+    sym (sheet-ends _ _ _ _ (l .loop .needed) (omega arith)) ∙ rw z at (l .loop .inv .3)
 
 returns-3 : tie.Need-returns-3 Inv-loop μ-loop
 returns-3 c =
@@ -93,7 +93,7 @@ returns-3 c =
     let n = l .before .before .args .n in
     let z : n - l .loop .i ≡ 0 = omega arith in
     let e : l .loop .i ≡ n = omega arith in
-    ap (λ (x : ℕ). bad 9 x) (sym e) ∙ sym (left-over _ _ _ _ (l .loop .needed) (c .if1 .left)) ∙ rw z at (l .loop .inv .3)
+    ap (λ (x : ℕ). bad 9 x) (sym e) ∙ sym (left-over _ _ _ _ (l .loop .needed) (λ e. omega arith)) ∙ rw z at (l .loop .inv .3)
 
 pub queries-spec : {M : Type 1} → statement M
 queries-spec =

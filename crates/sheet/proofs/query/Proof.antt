@@ -3,7 +3,7 @@ use mathlib.Core.Path.{sym, ap, _∙_}
 use borrow.Author.Needs.{needs}
 use native.Mathlib.Omega.{arith}
 use Rattle.sheet.specs.Extent.{asked}
-use Rattle.sheet.proofs.Laws.{four-inside, query-bad, query-rest}
+use Rattle.sheet.proofs.Laws.{four-inside, query-by}
 use Rattle.sheet.proofs.query.Statement.{statement}
 use Rattle.sheet.proofs.query.Tie as tie
 
@@ -29,12 +29,12 @@ pairs-requires c κs =
 returns : tie.Need-returns
 returns c =
     let f = c .before .before .before in
-    query-bad _ _ _ _ _ _ (ap asked (sym (c .before .found .given .1)) ∙ f .four .ensures)
+    query-by _ _ _ _ _ (ap asked (sym (c .before .found .given .1)) ∙ f .four .ensures)
 
 returns-2 : tie.Need-returns-2
 returns-2 c =
     let f = c .before .before .before .before in
-    c .pairs .ensures ∙ query-rest _ _ _ _ _ (ap asked (sym (c .before .before .found2 .given .1)) ∙ f .four .ensures)
+    c .pairs .ensures ∙ query-by _ _ _ _ _ (ap asked (sym (c .before .before .found2 .given .1)) ∙ f .four .ensures)
 
 pub query-spec : {M : Type 1} → statement M
 query-spec = tie.close (tie.spec four-requires enum-known-found enum-known-found-2 add-pairs pairs-requires returns returns-2)

@@ -1,5 +1,6 @@
 -- `sheet::room` gives refusal 15 where the count is more than the row holds, and else what it came with. Assumes nothing.
 use mathlib.Core.Path.{refl}
+use native.Mathlib.Omega.{arith}
 use borrow.Author.Needs.{needs}
 use Rattle.sheet.specs.Verdict.{roomed}
 use Rattle.sheet.proofs.Laws.{with-room, no-room}
@@ -17,10 +18,10 @@ unfolding roomed
 returns c = rw (c .before .v .given .1) refl
 
 returns-2 : tie.Need-returns-2
-returns-2 c = rw (c .before .before .v2 .given .1) (with-room _ _ (c .if1 .taken))
+returns-2 c = rw (c .before .before .v2 .given .1) (with-room _ _ (omega arith))
 
 returns-3 : tie.Need-returns-3
-returns-3 c = rw (c .before .before .v2 .given .1) (no-room _ _ (c .if1 .left))
+returns-3 c = rw (c .before .before .v2 .given .1) (no-room _ _ (omega arith))
 
 pub room-spec : {M : Type 1} → statement M
 room-spec = tie.close (tie.spec enum-known-v enum-known-v-2 returns returns-2 returns-3)

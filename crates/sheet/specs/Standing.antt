@@ -1,0 +1,49 @@
+-- Going through an accepted sheet from query to query: each stands at its number, its record can be read there, and the next stands after its pairs.
+use mathlib.Core.Path.{_≡_, refl}
+use mathlib.Core.List.{List, [], _∷_}
+use Prim.Native.Nat.{ℕ, zero, suc, _+_, _*_, _<_}
+use native.Mathlib.Omega.{arith}
+use lib.ListN.{length, getD, take}
+use Rattle.meaning.specs.Judged.{good}
+use Rattle.meaning.specs.Sheet.{Query, queryAt, sheetOf}
+use Rattle.meaning.specs.SheetLaws.{numbersOf}
+use Rattle.sheet.specs.declared.Record.{Record}
+use Rattle.sheet.specs.Record.{Readable, IsRecord, queryFrom}
+use Rattle.sheet.specs.QueryLaws.{RecordFits, record-fits, record-terms, query-here}
+
+-- query i of the accepted sheet s stands at number `at`
+pub record Standing (s : List ℕ) (T : ℕ) (qs : List Query) (i at : ℕ) : Type 0 where
+  pub fine : sheetOf s T ≡ good qs
+  pub place : at ≡ 1 + numbersOf (take i qs)
+
+pub standing-first : (s : List ℕ) (T : ℕ) (qs : List Query) → sheetOf s T ≡ good qs → Standing s T qs 0 1
+unfolding numbersOf
+standing-first s T qs e = record { fine = e; place = refl }
+
+-- the next query stands after this one's four numbers and pairs
+numbers-next :
+    (qs : List Query) (i : ℕ) → i < length qs → (d : Query) →
+    numbersOf (take (i + 1) qs) ≡ numbersOf (take i qs) + (4 + 2 * length (getD qs i d .pairs))
+unfolding numbersOf
+numbers-next [] i h d = absurd (omega arith)
+numbers-next (q ∷ qs) zero h d = omega arith
+numbers-next (q ∷ qs) (suc i) h d =
+    let e : suc i + 1 ≡ suc (i + 1) = omega arith in
+    rw e (omega (arith, numbers-next qs i (omega arith) d))
+
+module _ (s : List ℕ) (T : ℕ) (qs : List Query) (i at : ℕ) (st : Standing s T qs i at) (h : i < length qs) where
+  pub standing-query : (d : Query) → queryAt s T i at ≡ good (getD qs i d)
+  standing-query d = rw (st .place) (query-here s T qs (st .fine) i h d)
+
+  pub standing-readable : Readable s at
+  standing-readable = let d = queryFrom s 0 in record { T = T; i = i; query = getD qs i d; fine = standing-query d }
+
+  module _ (r : Record) (is : IsRecord s at r) where
+    pub standing-fits : RecordFits s T r
+    standing-fits = let d = queryFrom s 0 in record-fits s T i at (getD qs i d) r (standing-query d) is
+
+    pub standing-next : Standing s T qs (i + 1) (r .pairs + 2 * r .q)
+    standing-next =
+        let d = queryFrom s 0 in
+        let n = record-terms s r (getD qs i d) (is .0 T i (getD qs i d) (standing-query d)) in
+        record { fine = st .fine; place = omega (arith, is .1, st .place, numbers-next qs i h d) }
