@@ -1,0 +1,50 @@
+-- `lead` meets its contract: from place i on the first q are in order, and each turn settles one mention more.
+use Rattle.mentions.specs.Mentions.{none}
+use Rattle.meet.specs.Meet.{postingsLeft}
+use Rattle.meet.proofs.Settling.{sortedFrom, sort-none, sort-turn}
+use mathlib.Core.Path.{_≡_, refl, sym, ap, _∙_}
+use Prim.Native.Nat.{ℕ, suc, _+_, _-_, _*_, _≤_, _<_}
+use native.Mathlib.Omega.{arith}
+use lib.ListN.{length, take, drop, getD, set}
+use borrow.Author.Needs.{needs}
+use Rattle.meet.proofs.lead.Statement.{statement}
+use Rattle.meet.proofs.lead.Tie as tie
+use Rattle.meet.proofs.lead.Reads as reads
+use Rattle.meet.proofs.lead.Lts as lts
+use Rattle.meet.proofs.settle.Reads as settle-reads
+
+abbrev Inv-loop : tie.InvT-loop
+Inv-loop q out₀ i₀ out i = (i ≤ q) × (length out₀ ≡ 16) × (out ≡ sortedFrom postingsLeft none i q out₀)
+
+abbrev μ-loop : tie.MeasureT-loop
+μ-loop q out₀ i₀ out i = i
+
+loop-holds : tie.Need-loop-holds Inv-loop μ-loop
+loop-holds c =
+    (search needs, search needs, sort-none postingsLeft none (c .args .q) (c .args .ms))
+
+sub-i : tie.Need-sub-i Inv-loop μ-loop
+sub-i c = search needs
+
+settle-requires : tie.Need-settle-requires Inv-loop μ-loop
+settle-requires c κs = search needs
+
+loop-less : tie.Need-loop-less Inv-loop μ-loop
+loop-less c = search needs
+
+loop-again : tie.Need-loop-again Inv-loop μ-loop
+loop-again c =
+    let l = c .before .before .loop in
+    let a = c .before .before .before .args in
+    let e : l .i - 1 + 1 ≡ l .i = omega arith in
+    (search needs, search needs, c .settle .ensures ∙ sort-turn postingsLeft none (a .ms) (l .out) (a .q) (l .i - 1) (omega arith) (search needs) (rw e (l .inv .2)))
+
+returns : tie.Need-returns Inv-loop μ-loop
+returns c =
+    let e : c .before .loop .i ≡ 0 = omega arith in
+    rw e at (c .before .loop .inv .2)
+
+pub lead-spec : {M : Type 1} → statement M
+lead-spec =
+    tie.close
+    (tie.spec Inv-loop μ-loop loop-holds sub-i settle-requires loop-less loop-again returns)

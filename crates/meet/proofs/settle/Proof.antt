@@ -1,0 +1,110 @@
+-- `settle` meets its contract: with the mention in hand settled from the open place on, the array is the one asked for.
+use mathlib.Core.Logic.{⊎-elim}
+use Rattle.mentions.specs.Mentions.{none}
+use Rattle.meet.specs.Sorted.{settledIn}
+use Rattle.meet.specs.Meet.{postingsLeft}
+use Rattle.meet.proofs.Settling.{settle-on, settle-before, settle-last}
+use mathlib.Core.Path.{_≡_, refl, sym, ap, _∙_}
+use Prim.Native.Nat.{ℕ, suc, _+_, _-_, _*_, _≤_, _<_}
+use native.Mathlib.Omega.{arith}
+use lib.ListN.{length, take, drop, getD, set}
+use borrow.Author.Needs.{needs}
+use Rattle.meet.proofs.settle.Statement.{statement}
+use Rattle.meet.proofs.settle.Tie as tie
+use Rattle.meet.proofs.settle.Reads as reads
+use Rattle.meet.proofs.settle.Lts as lts
+use Rattle.meet.proofs.postings_left.Reads as postings-left-reads
+
+abbrev Inv-loop : tie.InvT-loop
+Inv-loop i q out₀ hand own at₀ out at =
+    (at < q) × (length out ≡ 16) × (own ≡ postingsLeft hand) × (settledIn postingsLeft at q hand out ≡ settledIn postingsLeft i q hand out₀)
+
+abbrev μ-loop : tie.MeasureT-loop
+μ-loop i q out₀ hand own at₀ out at = q - at
+
+mul-hand : tie.Need-mul-hand Inv-loop μ-loop
+mul-hand c = search needs
+
+array-copy-out-hand : tie.Need-array-copy-out-hand Inv-loop μ-loop
+array-copy-out-hand c = search needs
+
+postings-left-requires : tie.Need-postings-left-requires Inv-loop μ-loop
+postings-left-requires c κs = search needs
+
+loop-holds : tie.Need-loop-holds Inv-loop μ-loop
+loop-holds c =
+    (search needs, search needs, c .postings-left .ensures, refl)
+
+add-loop : tie.Need-add-loop Inv-loop μ-loop
+add-loop c = search needs
+
+add-next : tie.Need-add-next Inv-loop μ-loop
+add-next c = search needs
+
+mul-next : tie.Need-mul-next Inv-loop μ-loop
+mul-next c = search needs
+
+array-copy-out-next : tie.Need-array-copy-out-next Inv-loop μ-loop
+array-copy-out-next c = search needs
+
+postings-left-requires-2 : tie.Need-postings-left-requires-2 Inv-loop μ-loop
+postings-left-requires-2 c κs = search needs
+
+mul-out : tie.Need-mul-out Inv-loop μ-loop
+mul-out c = search needs
+
+array-set-from-out : tie.Need-array-set-from-out Inv-loop μ-loop
+array-set-from-out c = search needs
+
+add-at : tie.Need-add-at Inv-loop μ-loop
+add-at c = search needs
+
+loop-less : tie.Need-loop-less Inv-loop μ-loop
+loop-less c = search needs
+
+loop-again : tie.Need-loop-again Inv-loop μ-loop
+loop-again c =
+    let l = c .before .before .before .before .loop in
+    let a = c .before .before .before .before .before .before .before .args in
+    let hand = getD (a .ms) (a .i) none in
+    (search needs, search needs, l .inv .2, settle-on postingsLeft none (l .out) (a .q) (l .at) (search needs) hand (search needs) (omega (arith, l .inv .2, c .before .postings-left2 .ensures, c .if1 .left)) ∙ l .inv .3)
+
+mul-out-2 : tie.Need-mul-out-2 Inv-loop μ-loop
+mul-out-2 c = search needs
+
+array-set-from-out-2 : tie.Need-array-set-from-out-2 Inv-loop μ-loop
+array-set-from-out-2 c = search needs
+
+returns : tie.Need-returns Inv-loop μ-loop
+returns c =
+    let l = c .before .loop in
+    let a = c .before .before .before .before .args in
+    let hand = getD (a .ms) (a .i) none in
+    ⊎-elim
+    (λ w. settle-last postingsLeft none (l .out) (a .q) (l .at) (search needs) hand (search needs) (search needs) ∙ l .inv .3)
+    (λ w. settle-before postingsLeft none (l .out) (a .q) (l .at) (search needs) hand (search needs) (omega arith) ∙ l .inv .3)
+    (c .loop-test .came)
+
+pub settle-spec : {M : Type 1} → statement M
+settle-spec =
+    tie.close
+    (tie.spec
+    Inv-loop
+    μ-loop
+    mul-hand
+    array-copy-out-hand
+    postings-left-requires
+    loop-holds
+    add-loop
+    add-next
+    mul-next
+    array-copy-out-next
+    postings-left-requires-2
+    mul-out
+    array-set-from-out
+    add-at
+    loop-less
+    loop-again
+    mul-out-2
+    array-set-from-out-2
+    returns)

@@ -1,0 +1,4 @@
+pub mod Sorted
+pub mod SortedLaws
+pub mod Meet
+pub mod MeetLaws

@@ -1,0 +1,3 @@
+pub mod Scoring
+pub mod Looking
+pub mod Walking

@@ -1,0 +1,6 @@
+pub mod Stand
+pub mod Walk
+pub mod NextLaws
+pub mod StandLaws
+pub mod PlacedLaws
+pub mod StartLaws
