@@ -25,6 +25,9 @@ small c =
 size : (c : tie.After-read-head) → c .read-head .result .width ≤ 24 → c .read-head .result .count * (c .read-head .result .width + 8) ≤ 4096
 size c w = size-most (c .read-head .result .count) (c .read-head .result .width) (small c .few) w
 
+abbrev width : tie.After-read-head → ℕ
+width c = c .read-head .result .width
+
 -- refusal 5 where a head is there
 odd :
     (c : tie.After-read-head) (t : ℕ) →
@@ -35,7 +38,7 @@ odd :
 odd c t e =
     let a = c .before .before .before .args in
     ap (keep (takenOf (a .shift) (a .next)))
-    (sym (block-odd (a .part .now) (a .docs) t (a .shift) (a .next) (a .left) (headFields (c .read-head .result)) (c .read-head .ensures) (c .before .if1 .left) e))
+    (sym (block-odd (a .part .now) (a .docs) t (a .shift) (a .next) (a .left) (headFields (c .read-head .result)) (c .read-head .ensures) (omega arith) e))
 
 -- what the meaning says of the block, by what was found of its postings
 body :
@@ -48,8 +51,8 @@ body c t =
     let h = c .before .before .before .before in
     let a = h .before .before .before .args in
     let head = headFields (h .read-head .result) in
-    block-there (a .part .now) (a .docs) t (a .shift) (a .next) (a .left) head (h .read-head .ensures) (h .before .if1 .left)
-    (c .before .before .before .if2 .left) (c .before .before .if3 .left) (c .before .if4 .left)
+    block-there (a .part .now) (a .docs) t (a .shift) (a .next) (a .left) head (h .read-head .ensures) (omega arith)
+    (omega arith) (omega arith) (omega arith)
     ∙ ap (λ (m : Judged Kept). m >>= closing t head) (sym (c .judge-postings .ensures t))
 
 -- the same where the postings are good
@@ -74,31 +77,31 @@ add-if1 c = search needs
 returns : tie.Need-returns
 returns c t =
     let a = c .before .before .args in
-    ap (keep (takenOf (a .shift) (a .next))) (sym (block-cut (a .part .now) (a .docs) t (a .shift) (a .next) (a .left) (c .if1 .taken)))
+    ap (keep (takenOf (a .shift) (a .next))) (sym (block-cut (a .part .now) (a .docs) t (a .shift) (a .next) (a .left) (omega arith)))
 
 read-head-requires : tie.Need-read-head-requires
 read-head-requires c κs = search needs
 
 returns-2 : tie.Need-returns-2
-returns-2 c t = odd (c .before) t (rw (lt-leb _ _ (c .if2 .taken)))
+returns-2 c t = odd (c .before) t (rw (lt-leb (width (c .before)) 24 (omega arith)))
 
 returns-3 : tie.Need-returns-3
-returns-3 c t = odd (c .before .before) t (rw (le-leb _ _ (c .before .if2 .left), lt-leb _ _ (c .if3 .taken)))
+returns-3 c t = odd (c .before .before) t (rw (le-leb (width (c .before .before)) 24 (omega arith), lt-leb _ _ (c .if3 .taken)))
 
 add-size : tie.Need-add-size
 add-size c = search needs
 
 mul-size : tie.Need-mul-size
-mul-size c = omega (arith, size (c .before .before) (c .before .if2 .left))
+mul-size c = omega (arith, size (c .before .before) (omega arith))
 
 add-size-2 : tie.Need-add-size-2
-add-size-2 c = omega (arith, size (c .before .before) (c .before .if2 .left))
+add-size-2 c = omega (arith, size (c .before .before) (omega arith))
 
 add-if4 : tie.Need-add-if4
-add-if4 c = omega (arith, size (c .before .before) (c .before .if2 .left))
+add-if4 c = omega (arith, size (c .before .before) (omega arith))
 
 returns-4 : tie.Need-returns-4
-returns-4 c t = odd (c .before .before .before) t (rw (le-leb _ _ (c .before .before .if2 .left), le-leb _ _ (c .before .if3 .left), lt-leb _ _ (c .if4 .taken)))
+returns-4 c t = odd (c .before .before .before) t (rw (le-leb (width (c .before .before .before)) 24 (omega arith), le-leb _ _ (c .before .if3 .left), lt-leb _ _ (c .if4 .taken)))
 
 add-judge-postings : tie.Need-add-judge-postings
 add-judge-postings c = search needs
