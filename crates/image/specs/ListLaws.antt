@@ -107,15 +107,15 @@ module _ (s : List ℕ) (N t i next left : ℕ) where
       ∙ keep-same rest _ (endedFrom (max top (largestOf (b .postings))))
       (λ r. let m : max top (largestOf (b .postings ++ r .postings)) ≡ max (max top (largestOf (b .postings))) (largestOf (r .postings)) = omega (arith, largest-append (b .postings) (r .postings)) in rw m))
 
-  pub blocks-turn : (top : ℕ) → 0 < left →
+  -- the same by what b says of the block
+  pub blocks-turn : (top : ℕ) → 0 < left → (b : Judged Taken) → b ≡ keep (takenOf i next) (blockAt s N t i next left) →
       keep (endedFrom top) (blocksAt s N t left i next left)
-      ≡ (keep (takenOf i next) (blockAt s N t i next left)
-      >>= λ k. keep (endedFrom (max top (k .largest))) (blocksAt s N t (left - k .postings) (i + k .bits) (k .next) (left - k .postings)))
+      ≡ (b >>= λ k. keep (endedFrom (max top (k .largest))) (blocksAt s N t (left - k .postings) (i + k .bits) (k .next) (left - k .postings)))
   unfolding blocksAt
-  blocks-turn top h =
+  blocks-turn top h b q =
       let some = ne-eqb left 0 (λ z. omega arith) in
       ap (keep (endedFrom top)) (blocks-fuel s N t left (suc (left - 1)) i next left (omega arith) (omega arith))
-      ∙ rw some
+      ∙ rw (q, some)
       (after top (blockAt s N t i next left)
       (λ b e.
       let p = block-passed b e in

@@ -19,13 +19,9 @@ use Rattle.image.specs.Verdict.{Sizes, verdict, sizesOf, endsWell}
 use Rattle.image.specs.KeepLaws.{keep-need}
 use Rattle.image.specs.DirectoryLaws.{terms-whole}
 
--- refusals 2, 3, those of the terms, and 8, of an image with header h
-abbrev pub judgedWith : List ℕ → Header → Judged Sizes
-judgedWith s h =
-    need (eqb (h .version) 1) 2 0
-    >>= λ _. (need (eqb (h .bytes) (length s) && leb (8 + 8 * h .terms) (length s)) 3 0
-    >>= λ _. (keep stopOf (termsAt s (h .docs) 0 (64 + 64 * h .terms) (h .terms))
-    >>= λ stop. (need (endsWell s stop) 8 (h .terms) >>= λ _. good (record { terms = h .terms; docs = h .docs }))))
+-- refusal 8, or the sizes, of an image with header h whose last list ends at bit `stop`
+abbrev pub ending : List ℕ → Header → ℕ → Judged Sizes
+ending s h stop = need (endsWell s stop) 8 (h .terms) >>= λ _. good (record { terms = h .terms; docs = h .docs })
 
 module _ (s : List ℕ) where
   pub image-short : length s < 8 → sizesOf (imageOf s) ≡ bad 1 0
@@ -35,7 +31,7 @@ module _ (s : List ℕ) where
   -- after the last list
   last : (h : Header) (m : Judged Terms) → ((r : Terms) → m ≡ good r → length (r .terms) ≡ h .terms) →
       sizesOf (m >>= λ r. (need (endsWell s (r .stop)) 8 (h .terms) >>= λ _. good (record { docs = h .docs; terms = r .terms })))
-      ≡ (keep stopOf m >>= λ stop. (need (endsWell s stop) 8 (h .terms) >>= λ _. good (record { terms = h .terms; docs = h .docs })))
+      ≡ (keep stopOf m >>= ending s h)
   last h (bad n p) count = refl
   last h (good r) count = go (endsWell s (r .stop))
     where
@@ -45,7 +41,12 @@ module _ (s : List ℕ) where
       go false = refl
       go true = rw (count r refl)
 
-  pub image-is : (h : Header) → h ≡ headerOf s → 8 ≤ length s → sizesOf (imageOf s) ≡ judgedWith s h
+  -- refusals 2, 3, those of the terms, and 8
+  image-is : (h : Header) → h ≡ headerOf s → 8 ≤ length s →
+      sizesOf (imageOf s)
+      ≡ (need (eqb (h .version) 1) 2 0
+      >>= λ _. (need (eqb (h .bytes) (length s) && leb (8 + 8 * h .terms) (length s)) 3 0
+      >>= λ _. (keep stopOf (termsAt s (h .docs) 0 (64 + 64 * h .terms) (h .terms)) >>= ending s h)))
   unfolding imageOf
   image-is h q p =
       let g = headerOf s in
@@ -55,6 +56,22 @@ module _ (s : List ℕ) where
       (keep-need (eqb (g .version) 1) 2 0 sizes _ _
       (keep-need (eqb (g .bytes) (length s) && leb (8 + 8 * g .terms) (length s)) 3 0 sizes _ _
       (last g terms (λ r e. terms-whole s (g .docs) 0 (64 + 64 * g .terms) (g .terms) r e .count))))
+
+  -- an image with header h: refusals 2 and 3, or by what l says of its lists
+  pub image-version : (h : Header) → h ≡ headerOf s → 8 ≤ length s → (h .version ≡ 1 → ⊥) → sizesOf (imageOf s) ≡ bad 2 0
+  image-version h e p v = image-is h e p ∙ rw (ne-eqb (h .version) 1 v)
+
+  pub image-length :
+      (h : Header) → h ≡ headerOf s → 8 ≤ length s → h .version ≡ 1 → (eqb (h .bytes) (length s) && leb (8 + 8 * h .terms) (length s)) ≡ false →
+      sizesOf (imageOf s) ≡ bad 3 0
+  image-length h e p v f = image-is h e p ∙ rw (eq-eqb (h .version) 1 v, f)
+
+  pub image-there :
+      (h : Header) → h ≡ headerOf s → 8 ≤ length s → h .version ≡ 1 → h .bytes ≡ length s → 8 + 8 * h .terms ≤ length s →
+      (l : Judged ℕ) → l ≡ keep stopOf (termsAt s (h .docs) 0 (64 + 64 * h .terms) (h .terms)) → sizesOf (imageOf s) ≡ (l >>= ending s h)
+  image-there h e p v b t l q =
+      image-is h e p
+      ∙ rw (eq-eqb (h .version) 1 v, eq-eqb (h .bytes) (length s) b, le-leb (8 + 8 * h .terms) (length s) t, q)
 
 -- the bounds of a header's fields
 pub record Bounded (h : Header) : Type 0 where

@@ -42,31 +42,17 @@ odd c t e =
 
 -- what the meaning says of the block, by what was found of its postings
 body :
-    (c : tie.After-judge-postings) (t : ℕ) →
+    (c : tie.After-judge-postings) (t : ℕ) (r : Postings) → c .judge-postings .result ≡ r →
     let h = c .before .before .before .before in
     let a = h .before .before .before .args in
     keep (takenOf (a .shift) (a .next)) (blockAt (a .part .now) (a .docs) t (a .shift) (a .next) (a .left))
-    ≡ (postingsSay t (c .judge-postings .result) >>= closing t (headFields (h .read-head .result)))
-body c t =
+    ≡ (postingsSay t r >>= closing t (headFields (h .read-head .result)))
+body c t r e =
     let h = c .before .before .before .before in
     let a = h .before .before .before .args in
     let head = headFields (h .read-head .result) in
     block-there (a .part .now) (a .docs) t (a .shift) (a .next) (a .left) head (h .read-head .ensures) (omega arith)
-    (omega arith) (omega arith) (omega arith)
-    ∙ ap (λ (m : Judged Kept). m >>= closing t head) (sym (c .judge-postings .ensures t))
-
--- the same where the postings are good
-found :
-    (c : tie.After-found) (t : ℕ) →
-    let j = c .before .before in
-    let h = j .before .before .before .before in
-    let a = h .before .before .before .args in
-    let v = c .found .given .0 in
-    keep (takenOf (a .shift) (a .next)) (blockAt (a .part .now) (a .docs) t (a .shift) (a .next) (a .left))
-    ≡ closing t (headFields (h .read-head .result)) (record { next = v .0; largest = v .1 .0 })
-found c t =
-    let j = c .before .before in
-    body j t ∙ ap (λ (r : Postings). postingsSay t r >>= closing t (headFields (j .before .before .before .before .read-head .result))) (c .found .given .1)
+    (omega arith) (omega arith) (omega arith) (postingsSay t r) (ap (postingsSay t) (sym e) ∙ c .judge-postings .ensures t)
 
 mul-end : tie.Need-mul-end
 mul-end c = search needs
@@ -119,18 +105,16 @@ add-if5 : tie.Need-add-if5
 add-if5 c = omega (arith, small (c .before .before .before .before .before .before .before) .last)
 
 returns-5 : tie.Need-returns-5
-returns-5 c t = sym (found (c .before .before) t ∙ rw (ne-eqb _ _ (c .if5 .taken)))
+returns-5 c t = sym (body (c .before .before .before .before) t _ (c .before .before .found .given .1) ∙ rw (ne-eqb _ _ (c .if5 .taken)))
 
 returns-6 : tie.Need-returns-6
-returns-6 c t = sym (found (c .before .before .before) t ∙ rw (eq-eqb _ _ (c .before .if5 .left), ne-eqb _ _ (c .if6 .taken)))
+returns-6 c t = sym (body (c .before .before .before .before .before) t _ (c .before .before .before .found .given .1) ∙ rw (eq-eqb _ _ (c .before .if5 .left), ne-eqb _ _ (c .if6 .taken)))
 
 returns-7 : tie.Need-returns-7
-returns-7 c t =
-    let j = c .before .before in
-    sym (body j t ∙ ap (λ (r : Postings). postingsSay t r >>= closing t (headFields (j .before .before .before .before .read-head .result))) (c .enum-told .given .1))
+returns-7 c t = sym (body (c .before .before) t _ (c .enum-told .given .1))
 
 returns-8 : tie.Need-returns-8
-returns-8 c t = sym (found (c .before .before .before) t ∙ rw (eq-eqb _ _ (c .before .if5 .left), eq-eqb _ _ (c .if6 .left)))
+returns-8 c t = sym (body (c .before .before .before .before .before) t _ (c .before .before .before .found .given .1) ∙ rw (eq-eqb _ _ (c .before .if5 .left), eq-eqb _ _ (c .if6 .left)))
 
 pub judge-block-spec : {M : Type 1} → statement M
 judge-block-spec =
