@@ -11,12 +11,13 @@ use Rattle.meaning.specs.BitsLaws.{bits-lt}
 use Rattle.meaning.specs.Judged.{Judged, good, bad, _>>=_, need}
 use Rattle.meaning.specs.JudgedLaws.{good-same}
 use Rattle.meaning.specs.Layout.{Header, headerOf}
-use Rattle.meaning.specs.Image.{Terms, Index, termsAt, imageOf}
+use Rattle.meaning.specs.Image as image
+use Rattle.meaning.specs.Image.{Terms, Index, termsAt, imageOf, indexOf}
 use Rattle.image.specs.declared.Verdict.{Verdict}
 use Rattle.image.specs.declared.Verdict.the-variants.{Refused, Accepted}
 use Rattle.image.specs.Answers.{keep, stopOf}
 use Rattle.image.specs.Verdict.{Sizes, verdict, sizesOf, endsWell}
-use Rattle.image.specs.KeepLaws.{keep-need}
+use Rattle.image.specs.KeepLaws.{keep-need, keep-good, keep-bad}
 use Rattle.image.specs.DirectoryLaws.{terms-whole}
 
 -- refusal 8, or the sizes, of an image with header h whose last list ends at bit `stop`
@@ -83,6 +84,18 @@ pub header-bounded : (s : List ℕ) (h : Header) → h ≡ headerOf s → Bounde
 header-bounded s h e =
     subst⁻¹ Bounded e
     (record { terms = omega (arith, bits-lt s 4 12); docs = omega (arith, bits-lt s 16 24); bytes = omega (arith, bits-lt s 40 24) })
+
+-- what a refusal, and an acceptance, say of the image
+pub verdict-refused : (s : List ℕ) (number place : ℕ) → verdict (Refused number place) ≡ sizesOf (imageOf s) → imageOf s ≡ bad number place
+verdict-refused s number place e = keep-bad (imageOf s) _ (sym e)
+
+pub verdict-accepted :
+    (s : List ℕ) (terms docs : ℕ) → verdict (Accepted terms docs) ≡ sizesOf (imageOf s) →
+    image.Accepted s × (length (indexOf s .terms) ≡ terms) × (indexOf s .docs ≡ docs)
+unfolding indexOf
+verdict-accepted s terms docs e =
+    let x = keep-good (imageOf s) _ (record { terms = terms; docs = docs }) (sym e) in
+    rw (x .1) ((x .0, refl), ap (λ (z : Sizes). z .terms) (x .2), ap (λ (z : Sizes). z .docs) (x .2))
 
 -- no two verdicts are right for one image
 pub judge-only : (s : List ℕ) (a b : Verdict) → verdict a ≡ sizesOf (imageOf s) → verdict b ≡ sizesOf (imageOf s) → a ≡ b

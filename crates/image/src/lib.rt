@@ -1,8 +1,8 @@
 // Judging an image: any bytes at all, refusals 1 to 8 of document 01 in its order, or what an accepted image holds.
-pub mod block;
-pub mod directory;
-pub mod fields;
-pub mod list;
+mod block;
+mod directory;
+mod fields;
+mod list;
 
 ghost use mathlib.Core.Path.{_≡_};
 ghost use Prim.Native.Nat.{ℕ, _-_, _*_, _≤_, _<_};
