@@ -20,7 +20,7 @@ fn say(name: &[u8], bytes: &[u8]) {
     io::write_all(1, b"\n");
 }
 
-// Refusals 1, 2 and 3, and images with no terms.
+// Refusal 1, and images with no terms.
 fn sizes() {
     // under 8 bytes
     say(b"no bytes", b"");
@@ -30,6 +30,10 @@ fn sizes() {
     say(b"8 bytes", b"\x10\x00\x00\x00\x00\x00\x00\x08");
     // T = 0, N = 2^24 - 1
     say(b"most documents", b"\x10\x00\xff\xff\xff\x00\x00\x08");
+}
+
+// Refusals 2 and 3.
+fn headers() {
     // the version is not 1
     say(b"version 2", b"\x20\x00\x00\x00\x00\x00\x00\x08");
     // 2 comes before 3
@@ -43,15 +47,15 @@ fn sizes() {
         b"a term in 15 bytes",
         b"\x10\x01\x00\x00\x00\x00\x00\x0f\x00\x00\x00\x00\x00\x00\x00",
     );
+}
+
+// Lists that are empty, and refusal 4 of such.
+fn empty_lists() {
     // 8 + 8T is 16, and the one list is empty
     say(
         b"a term in 16 bytes",
         b"\x10\x01\x00\x00\x00\x00\x00\x10\x00\x00\x00\x00\x00\x00\x00\x00",
     );
-}
-
-// Refusal 4, and lists that are empty.
-fn entries() {
     // postings 0 with another field not 0
     say(
         b"empty, largest 1",
@@ -72,6 +76,10 @@ fn entries() {
         b"empty, list, empty",
         b"\x10\x03\x00\x00\x0a\x00\x00\x29\x00\x00\x00\x00\x00\x00\x00\x00\x00\x00\x01\x00\x00\x00\x02\x09\x00\x00\x00\x00\x00\x00\x00\x00\x02\x30\x90\x00\x00\x74\x0b\x02\x40",
     );
+}
+
+// Refusal 4 of lists with postings.
+fn entries() {
     // postings above N
     say(
         b"2 postings, N = 1",
@@ -89,8 +97,8 @@ fn entries() {
     );
 }
 
-// Refusal 5, on both sides of its edges, and widths 0 and 24.
-fn blocks() {
+// Refusal 5, on both sides of the image's end.
+fn cut_blocks() {
     // blocks of 53 and 52 bits, from 128 and 181; 7 bits are left of 240
     say(
         b"head inside",
@@ -116,6 +124,10 @@ fn blocks() {
         b"body cut, impact 0",
         b"\x10\x01\x00\x00\x02\x00\x00\x17\x00\x00\x00\x80\x00\x00\x02\x01\x02\x00\x10\x00\x00\x10\x00",
     );
+}
+
+// Refusal 5 by what a head says, and w = 24.
+fn heads() {
     // document 2^24 - 2, below N = 2^24 - 1
     say(
         b"w = 24",
@@ -133,7 +145,7 @@ fn blocks() {
     );
 }
 
-// Refusals 6 and 7, in a block and in a list.
+// Refusals 6 and 7 of a block.
 fn postings() {
     // document 7 is below N
     say(
@@ -160,6 +172,10 @@ fn postings() {
         b"largest of block 10",
         b"\x10\x01\x00\x00\x0a\x00\x00\x19\x00\x00\x00\x80\x00\x00\x02\x09\x02\x30\xa0\x00\x00\x74\x0b\x02\x40",
     );
+}
+
+// Refusal 7 of a list, and lists of several blocks.
+fn lists() {
     // P8: the list's largest impact is 9
     say(
         b"largest of list 10",
@@ -204,6 +220,10 @@ fn ends() {
         b"w = 3, 1 left",
         b"\x10\x01\x00\x00\x01\x00\x00\x17\x00\x00\x00\x80\x00\x00\x01\x01\x00\x30\x10\x00\x00\x00\x02",
     );
+}
+
+// The same for wider gaps.
+fn more_ends() {
     // 184 + 0 = 184 of 184 bits
     say(
         b"w = 4, 0 left",
@@ -264,10 +284,15 @@ fn full() {
 
 fn main() {
     sizes();
+    headers();
+    empty_lists();
     entries();
-    blocks();
+    cut_blocks();
+    heads();
     postings();
+    lists();
     ends();
+    more_ends();
     left_over();
     full();
 }
