@@ -1,21 +1,19 @@
 -- Laws of a block: what its head and its postings make of it, and that its own part of the image is enough to judge it.
 use mathlib.Core.Path.{_≡_, refl, sym, ap, subst⁻¹, _∙_}
-use mathlib.Core.Bool.{Bool, true, false, _&&_}
-use mathlib.Core.List.{List, [], _∷_}
-use Prim.Native.Nat.{ℕ, zero, suc, _+_, _-_, _*_, _/_, _%_, _≤_, _<_}
-use native.Mathlib.Nat.{add-assoc, mul-le-mul}
+use mathlib.Core.Bool.{false, _&&_}
+use mathlib.Core.List.{List}
+use Prim.Native.Nat.{ℕ, zero, suc, _+_, _-_, _*_, _≤_, _<_}
+use native.Mathlib.Nat.{mul-le-mul}
 use native.Mathlib.Omega.{arith}
 use lib.Dec.{ltb, leb, eqb}
-use lib.ListN.{length, drop, length-drop}
-use borrow.Author.Tests.{le-leb, lt-leb, leb-true, leb-false}
-use Rattle.lists.specs.Tests.{by-test, both-true}
+use lib.ListN.{length}
+use borrow.Author.Tests.{le-leb, lt-leb}
 use Rattle.meaning.specs.Bits.{bitsAt}
-use Rattle.meaning.specs.BitsLaws.{bits-lt, bits-drop}
+use Rattle.meaning.specs.BitsLaws.{bits-lt}
 use Rattle.meaning.specs.Judged.{Judged, good, bad, _>>=_, need}
 use Rattle.meaning.specs.JudgedLaws.{bind-good, need-good, good-same}
 use Rattle.meaning.specs.Layout.{Head, headAt, sizeOf}
-use Rattle.meaning.specs.Image.{Posting, Part, nextOf, largestOf, postingsAt, blockAt}
-use Rattle.bits.specs.Parts.{from, from-is}
+use Rattle.meaning.specs.Image.{Posting, nextOf, largestOf, postingsAt, blockAt}
 use Rattle.image.specs.Answers.{keep, Kept, keptOf, Taken, takenOf}
 use Rattle.image.specs.KeepLaws.{keep-need}
 

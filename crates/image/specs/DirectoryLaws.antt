@@ -2,15 +2,14 @@
 use mathlib.Core.Path.{_≡_, refl, sym, ap, _∙_}
 use mathlib.Core.Bool.{Bool, true, false}
 use mathlib.Core.List.{List, [], _∷_}
-use Prim.Native.Nat.{ℕ, zero, suc, _+_, _-_, _*_, _≤_, _<_}
+use Prim.Native.Nat.{ℕ, zero, suc, _+_, _*_, _≤_}
 use native.Mathlib.Numerals.{add-one}
-use native.Mathlib.Omega.{arith}
-use lib.Dec.{leb, eqb}
+use lib.Dec.{eqb}
 use lib.ListN.{length}
 use Rattle.meaning.specs.Judged.{Judged, good, bad, _>>=_, need}
 use Rattle.meaning.specs.JudgedLaws.{bind-good, need-good, good-same}
 use Rattle.meaning.specs.Layout.{Entry, entryAt}
-use Rattle.meaning.specs.Image.{Part, Term, Terms, largestOf, blocksAt, entryFits, termsAt}
+use Rattle.meaning.specs.Image.{Part, Terms, largestOf, blocksAt, entryFits, termsAt}
 use Rattle.image.specs.Answers.{keep, Ended, endedOf, stopOf}
 use Rattle.image.specs.KeepLaws.{keep-then, keep-good}
 use Rattle.image.specs.ListLaws.{blocks-inside}

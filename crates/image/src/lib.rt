@@ -29,6 +29,7 @@ fn ends_well(image: &[u8], stop: usize) -> bool
     bits::field(&image[byte..], stop % 8, left) == 0
 }
 
+// Refusals 1, 2 and 3, then those of the terms in order, then 8: "The first fault found is the one given, and none is given otherwise."
 pub fn judge(image: &[u8]) -> Verdict
     ensures { λ r. ⌜ verdict r ≡ sizesOf (imageOf (now (image .entry))) ⌝ }
 {

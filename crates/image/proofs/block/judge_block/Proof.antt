@@ -7,12 +7,12 @@ use lib.Dec.{leb}
 use lib.ListN.{length}
 use borrow.Author.Needs.{needs}
 use borrow.Author.Tests.{le-leb, lt-leb, eq-eqb, ne-eqb}
-use Rattle.meaning.specs.Judged.{Judged, bad, _>>=_}
+use Rattle.meaning.specs.Judged.{bad, _>>=_}
 use Rattle.meaning.specs.Layout.{sizeOf}
 use Rattle.meaning.specs.Image.{blockAt}
 use Rattle.image.specs.declared.block.Postings.{Postings}
 use Rattle.image.specs.Fields.{headFields}
-use Rattle.image.specs.Answers.{keep, Kept, postingsSay, takenOf}
+use Rattle.image.specs.Answers.{keep, postingsSay, takenOf}
 use Rattle.image.specs.BlockLaws.{Small, head-small, size-most, closing, block-cut, block-odd, block-there}
 use Rattle.image.proofs.block.judge_block.Statement.{statement}
 use Rattle.image.proofs.block.judge_block.Tie as tie
