@@ -1,6 +1,6 @@
 -- Laws of two fields that stand one after the other, and were read as one number.
-use Prim.Native.Nat.{ℕ, zero, suc, _+_, _-_, _*_, _/_, _%_, _^_, _≤_, _<_}
-use mathlib.Core.Path.{_≡_, refl, sym, ap, _∙_}
+use Prim.Native.Nat.{ℕ, zero, suc, _+_, _*_, _/_, _%_, _^_, _≤_, _<_}
+use mathlib.Core.Path.{_≡_, ap}
 use mathlib.Core.List.{List}
 use lib.Pow.{pow-mono, high, low}
 use native.Mathlib.Nat.{lt-of-lt-of-le, pow-suc, add-zero, add-suc, add-assoc, mul-assoc}

@@ -3,7 +3,7 @@ use Prim.Native.Nat.{ℕ, _+_, _*_, _/_, _%_, _^_}
 use mathlib.Core.Path.{_≡_}
 use mathlib.Core.List.{List}
 use Rattle.meaning.specs.Bits.{bitsAt}
-use Rattle.meaning.specs.Layout.{Header, headerOf, Entry, entryAt, Head, headAt}
+use Rattle.meaning.specs.Layout.{headerOf, entryAt, headAt}
 use Rattle.bits.specs.BitsSplit.{bits-first, bits-second, bits-within}
 
 pub head-is :

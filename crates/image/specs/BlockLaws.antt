@@ -1,21 +1,19 @@
 -- Laws of a block: what its head and its postings make of it, and that its own part of the image is enough to judge it.
 use mathlib.Core.Path.{_≡_, refl, sym, ap, subst⁻¹, _∙_}
-use mathlib.Core.Bool.{Bool, true, false, _&&_}
-use mathlib.Core.List.{List, [], _∷_}
-use Prim.Native.Nat.{ℕ, zero, suc, _+_, _-_, _*_, _/_, _%_, _≤_, _<_}
-use native.Mathlib.Nat.{add-assoc, mul-le-mul}
+use mathlib.Core.Bool.{false, _&&_}
+use mathlib.Core.List.{List}
+use Prim.Native.Nat.{ℕ, zero, suc, _+_, _-_, _*_, _≤_, _<_}
+use native.Mathlib.Nat.{mul-le-mul}
 use native.Mathlib.Omega.{arith}
 use lib.Dec.{ltb, leb, eqb}
-use lib.ListN.{length, drop, length-drop}
-use borrow.Author.Tests.{le-leb, lt-leb, leb-true, leb-false}
-use Rattle.lists.specs.Tests.{by-test, both-true}
+use lib.ListN.{length}
+use borrow.Author.Tests.{le-leb, lt-leb}
 use Rattle.meaning.specs.Bits.{bitsAt}
-use Rattle.meaning.specs.BitsLaws.{bits-lt, bits-drop}
+use Rattle.meaning.specs.BitsLaws.{bits-lt}
 use Rattle.meaning.specs.Judged.{Judged, good, bad, _>>=_, need}
 use Rattle.meaning.specs.JudgedLaws.{bind-good, need-good, good-same}
 use Rattle.meaning.specs.Layout.{Head, headAt, sizeOf}
-use Rattle.meaning.specs.Image.{Posting, Part, nextOf, largestOf, postingsAt, blockAt}
-use Rattle.bits.specs.Parts.{from, from-is}
+use Rattle.meaning.specs.Image.{Posting, nextOf, largestOf, postingsAt, blockAt}
 use Rattle.image.specs.Answers.{keep, Kept, keptOf, Taken, takenOf}
 use Rattle.image.specs.KeepLaws.{keep-need}
 
@@ -71,16 +69,16 @@ module _ (s : List ℕ) (N t i next left : ℕ) where
       keep-need (eqb (h .last + 1) (nextOf ps next) && eqb (h .largest) (largestOf ps)) 7 t (takenOf i next) (good (record { postings = ps; stop = i + sizeOf h })) _
       (rw (size, count ps refl))
 
-  -- a block that is there: its postings, and what its head says of them
+  -- a block that is there, by what k says of its postings
   pub block-there :
       (h : Head) → h ≡ headAt s i → i + 44 ≤ 8 * length s → h .width ≤ 24 → h .count ≤ left → i + sizeOf h ≤ 8 * length s →
-      keep (takenOf i next) (blockAt s N t i next left)
-      ≡ (keep (keptOf next) (postingsAt s N t (h .width) (i + 44) next (h .count)) >>= closing t h)
+      (k : Judged Kept) → k ≡ keep (keptOf next) (postingsAt s N t (h .width) (i + 44) next (h .count)) →
+      keep (takenOf i next) (blockAt s N t i next left) ≡ (k >>= closing t h)
   unfolding blockAt
-  block-there h e p w c b =
+  block-there h e p w c b k q =
       let g = headAt s i in
       let w' : g .width ≤ 24 = rw e at w in
       let c' : g .count ≤ left = rw e at c in
       let b' : i + sizeOf g ≤ 8 * length s = rw e at b in
-      rw (e, le-leb (i + 44) (8 * length s) p, le-leb (g .width) 24 w', le-leb (g .count) left c', le-leb (i + sizeOf g) (8 * length s) b')
+      rw (q, e, le-leb (i + 44) (8 * length s) p, le-leb (g .width) 24 w', le-leb (g .count) left c', le-leb (i + sizeOf g) (8 * length s) b')
       (ended g (postingsAt s N t (g .width) (i + 44) next (g .count)) (λ ps q. postings-count s N t (g .width) (i + 44) next (g .count) ps q))

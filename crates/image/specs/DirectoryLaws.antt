@@ -2,15 +2,14 @@
 use mathlib.Core.Path.{_≡_, refl, sym, ap, _∙_}
 use mathlib.Core.Bool.{Bool, true, false}
 use mathlib.Core.List.{List, [], _∷_}
-use Prim.Native.Nat.{ℕ, zero, suc, _+_, _-_, _*_, _≤_, _<_}
+use Prim.Native.Nat.{ℕ, zero, suc, _+_, _*_, _≤_}
 use native.Mathlib.Numerals.{add-one}
-use native.Mathlib.Omega.{arith}
-use lib.Dec.{leb, eqb}
+use lib.Dec.{eqb}
 use lib.ListN.{length}
 use Rattle.meaning.specs.Judged.{Judged, good, bad, _>>=_, need}
 use Rattle.meaning.specs.JudgedLaws.{bind-good, need-good, good-same}
 use Rattle.meaning.specs.Layout.{Entry, entryAt}
-use Rattle.meaning.specs.Image.{Part, Term, Terms, largestOf, blocksAt, entryFits, termsAt}
+use Rattle.meaning.specs.Image.{Part, Terms, largestOf, blocksAt, entryFits, termsAt}
 use Rattle.image.specs.Answers.{keep, Ended, endedOf, stopOf}
 use Rattle.image.specs.KeepLaws.{keep-then, keep-good}
 use Rattle.image.specs.ListLaws.{blocks-inside}
@@ -40,7 +39,7 @@ module _ (s : List ℕ) (N t due : ℕ) where
       go true = keep-then (termsAt s N (suc t) (l .stop) n) (λ r. record { terms = record { postings = l .postings; largest = e .largest } ∷ r .terms; stop = r .stop }) stopOf
 
   -- a term with entry e
-  abbrev pub listWith : Entry → Judged ℕ
+  abbrev listWith : Entry → Judged ℕ
   listWith e = need (entryFits N due e) 4 t >>= λ _. (keep endedOf (blocksAt s N t (e .count) due 0 (e .count)) >>= finished t e)
 
   terms-first : (n : ℕ) → keep stopOf (termsAt s N t due (suc n)) ≡ (listWith (entryAt s t) >>= λ stop. keep stopOf (termsAt s N (suc t) stop n))
@@ -65,17 +64,23 @@ module _ (s : List ℕ) (N t due : ℕ) where
   bind-end (bad n p) = refl
   bind-end (good a) = refl
 
-  -- one term
-  pub list-is : (e : Entry) → e ≡ entryAt s t → keep stopOf (termsAt s N t due 1) ≡ listWith e
+  list-is : (e : Entry) → e ≡ entryAt s t → keep stopOf (termsAt s N t due 1) ≡ listWith e
   unfolding termsAt
   list-is e q = rw q (terms-first 0 ∙ bind-end (listWith (entryAt s t)))
 
-  -- and the terms after it
-  pub terms-turn : (n : ℕ) → 0 < n → keep stopOf (termsAt s N t due n) ≡ (keep stopOf (termsAt s N t due 1) >>= λ stop. keep stopOf (termsAt s N (t + 1) stop (n - 1)))
-  terms-turn zero h = absurd (omega arith)
-  terms-turn (suc n) h =
-      let less : suc n - 1 ≡ n = omega arith in
-      rw (less, add-one t, list-is (entryAt s t) refl) (terms-first n)
+  -- one term with entry e: refusal 4, or by what b says of its blocks
+  pub list-odd : (e : Entry) → e ≡ entryAt s t → entryFits N due e ≡ false → keep stopOf (termsAt s N t due 1) ≡ bad 4 t
+  list-odd e q f = list-is e q ∙ rw f
+
+  pub list-there :
+      (e : Entry) → e ≡ entryAt s t → entryFits N due e ≡ true →
+      (b : Judged Ended) → b ≡ keep endedOf (blocksAt s N t (e .count) due 0 (e .count)) → keep stopOf (termsAt s N t due 1) ≡ (b >>= finished t e)
+  list-there e q f b r = list-is e q ∙ rw (f, r)
+
+  -- the terms after it, by what b says of it
+  pub terms-turn : (n m : ℕ) → n ≡ suc m → (b : Judged ℕ) → b ≡ keep stopOf (termsAt s N t due 1) →
+      keep stopOf (termsAt s N t due n) ≡ (b >>= λ stop. keep stopOf (termsAt s N (t + 1) stop m))
+  terms-turn n m e b q = rw (e, add-one t, q ∙ list-is (entryAt s t) refl) (terms-first m)
 
   pub terms-end : (n : ℕ) → n ≡ 0 → keep stopOf (termsAt s N t due n) ≡ good due
   unfolding termsAt

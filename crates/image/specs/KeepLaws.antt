@@ -25,3 +25,7 @@ keep-need false n p f m k e = refl
 pub keep-good : {A B : Type 0} (m : Judged A) (f : A → B) (b : B) → keep f m ≡ good b → (a : A) × (m ≡ good a) × (f a ≡ b)
 keep-good (bad n p) f b e = absurd (let z : _≡_ {A = ℕ} 0 1 = cc in omega arith)
 keep-good (good a) f b e = (a, refl, good-same e)
+
+pub keep-bad : {A B : Type 0} (m : Judged A) (f : A → B) {n p : ℕ} → keep f m ≡ bad n p → m ≡ bad n p
+keep-bad (bad n p) f e = cc
+keep-bad (good a) f e = absurd (let z : _≡_ {A = ℕ} 0 1 = cc in omega arith)

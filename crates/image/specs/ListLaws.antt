@@ -1,6 +1,6 @@
 -- Laws of a list's blocks: one block a turn, with what is kept of those before it.
 use mathlib.Core.Path.{_≡_, refl, sym, ap, _∙_}
-use mathlib.Core.Bool.{Bool, _&&_}
+use mathlib.Core.Bool.{_&&_}
 use mathlib.Core.List.{List, [], _∷_, _++_}
 use Prim.Native.Nat.{ℕ, zero, suc, _+_, _-_, _*_, _≤_, _<_, max}
 use native.Mathlib.Omega.{arith}
@@ -9,7 +9,7 @@ use lib.ListN.{length}
 use borrow.Author.Tests.{ltb-true, leb-true, ne-eqb}
 use Rattle.lists.specs.Tests.{by-test, both-true}
 use Rattle.meaning.specs.Bits.{bitsAt}
-use Rattle.meaning.specs.Judged.{Judged, good, bad, _>>=_, need}
+use Rattle.meaning.specs.Judged.{Judged, good, bad, _>>=_}
 use Rattle.meaning.specs.JudgedLaws.{bind-good, need-good, good-same}
 use Rattle.meaning.specs.Layout.{headAt, sizeOf}
 use Rattle.meaning.specs.Image.{Posting, Part, nextOf, largestOf, postingsAt, blockAt, blocksAt}
@@ -107,15 +107,15 @@ module _ (s : List ℕ) (N t i next left : ℕ) where
       ∙ keep-same rest _ (endedFrom (max top (largestOf (b .postings))))
       (λ r. let m : max top (largestOf (b .postings ++ r .postings)) ≡ max (max top (largestOf (b .postings))) (largestOf (r .postings)) = omega (arith, largest-append (b .postings) (r .postings)) in rw m))
 
-  pub blocks-turn : (top : ℕ) → 0 < left →
+  -- the same by what b says of the block
+  pub blocks-turn : (top : ℕ) → 0 < left → (b : Judged Taken) → b ≡ keep (takenOf i next) (blockAt s N t i next left) →
       keep (endedFrom top) (blocksAt s N t left i next left)
-      ≡ (keep (takenOf i next) (blockAt s N t i next left)
-      >>= λ k. keep (endedFrom (max top (k .largest))) (blocksAt s N t (left - k .postings) (i + k .bits) (k .next) (left - k .postings)))
+      ≡ (b >>= λ k. keep (endedFrom (max top (k .largest))) (blocksAt s N t (left - k .postings) (i + k .bits) (k .next) (left - k .postings)))
   unfolding blocksAt
-  blocks-turn top h =
+  blocks-turn top h b q =
       let some = ne-eqb left 0 (λ z. omega arith) in
       ap (keep (endedFrom top)) (blocks-fuel s N t left (suc (left - 1)) i next left (omega arith) (omega arith))
-      ∙ rw some
+      ∙ rw (q, some)
       (after top (blockAt s N t i next left)
       (λ b e.
       let p = block-passed b e in
@@ -150,4 +150,5 @@ blocks-inside s N t (suc f) i next left b h e = go (λ i next left b h e. blocks
         let p = block-passed s N t i next left k (x .1) in
         let room = p .room in
         let stop = p .stop in
-        rw (← good-same (y .2)) (r (k .stop) (nextOf (k .postings) next) l (y .0) (omega arith) (y .1)))
+        let same : _≡_ {A = Part} (record { postings = k .postings ++ y .0 .postings; stop = y .0 .stop }) b = good-same (y .2) in
+        rw (← same) (r (k .stop) (nextOf (k .postings) next) l (y .0) (omega arith) (y .1)))

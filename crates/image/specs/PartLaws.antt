@@ -1,11 +1,11 @@
 -- "Each block is judged on its own part of the image, cut from the byte that holds its first bit": the part tells the same of it.
 use mathlib.Core.Path.{_≡_, refl, sym, ap, _∙_}
 use mathlib.Core.Bool.{Bool, true, false, _&&_}
-use mathlib.Core.List.{List, _∷_}
+use mathlib.Core.List.{List}
 use Prim.Native.Nat.{ℕ, zero, suc, _+_, _-_, _*_, _/_, _%_, _≤_}
 use native.Mathlib.Nat.{add-assoc}
 use native.Mathlib.Omega.{arith}
-use lib.Dec.{ltb, leb, eqb}
+use lib.Dec.{leb, eqb}
 use lib.ListN.{length, drop, length-drop}
 use borrow.Author.Tests.{le-leb, leb-true}
 use Rattle.meaning.specs.Bits.{bitsAt}
@@ -14,7 +14,7 @@ use Rattle.meaning.specs.Judged.{Judged, good, bad, _>>=_, need}
 use Rattle.meaning.specs.Layout.{Head, headAt, sizeOf}
 use Rattle.meaning.specs.Image.{Posting, Part, nextOf, largestOf, postingsAt, blockAt}
 use Rattle.bits.specs.Parts.{from, from-is}
-use Rattle.image.specs.Answers.{keep, Taken, takenOf}
+use Rattle.image.specs.Answers.{keep, takenOf}
 
 same : (p q : Bool) → (p ≡ true → q ≡ true) → (q ≡ true → p ≡ true) → p ≡ q
 same true q f g = sym (f refl)

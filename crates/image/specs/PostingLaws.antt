@@ -1,5 +1,5 @@
 -- Laws of a block's postings: one posting a turn, with what is kept of those before it.
-use mathlib.Core.Path.{_≡_, refl, sym, ap, _∙_}
+use mathlib.Core.Path.{_≡_, sym, _∙_}
 use mathlib.Core.Bool.{_&&_}
 use mathlib.Core.List.{List, _∷_}
 use Prim.Native.Nat.{ℕ, zero, suc, _+_, _-_, _*_, _/_, _%_, _<_, max}
@@ -8,7 +8,7 @@ use native.Mathlib.Numerals.{add-one}
 use native.Mathlib.Omega.{arith}
 use lib.Dec.{ltb}
 use Rattle.meaning.specs.Bits.{bitsAt}
-use Rattle.meaning.specs.Judged.{Judged, good, bad, _>>=_, need}
+use Rattle.meaning.specs.Judged.{good, _>>=_, need}
 use Rattle.meaning.specs.Image.{Posting, nextOf, largestOf, postingsAt}
 use Rattle.bits.specs.BitsSplit.{bits-first, bits-second}
 use Rattle.image.specs.Answers.{keep, Kept, keptOf}

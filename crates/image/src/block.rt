@@ -1,4 +1,5 @@
 // "Each block is judged on its own part of the image, cut from the byte that holds its first bit": refusals 5, 6 and 7 of a block.
+use super::fields::read_head;
 ghost use mathlib.Core.Path.{_≡_};
 ghost use Prim.Native.Nat.{ℕ, _+_, _*_, _≤_, _<_, max};
 ghost use lib.ListN.{length};
@@ -72,7 +73,7 @@ pub fn judge_block(part: &[u8], docs: u64, shift: usize, next: u64, left: usize)
     if end < shift + 44 {
         return Block::Wrong(5);
     }
-    let head = super::fields::read_head(part, shift);
+    let head = read_head(part, shift);
     let n = head.count;
     let w = head.width;
     let last = head.last;

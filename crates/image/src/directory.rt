@@ -1,4 +1,8 @@
 // The directory: each term in order, "first 4, then its blocks in order .., then the list's 7".
+use super::fields::Entry;
+use super::fields::read_entry;
+use super::list::Blocks;
+use super::list::judge_blocks;
 ghost use mathlib.Core.Path.{_≡_};
 ghost use Prim.Native.Nat.{ℕ, _+_, _*_, _≤_, _<_};
 ghost use lib.ListN.{length};
@@ -23,7 +27,7 @@ pub enum Lists {
 }
 
 // No refusal 4: "postings 0 with another field not 0; postings above N; list not at its due bit".
-fn entry_fits(docs: u64, due: usize, entry: super::fields::Entry) -> bool
+fn entry_fits(docs: u64, due: usize, entry: Entry) -> bool
     ensures { λ r. ⌜ r ≡ entryFits docs due (entryFields entry) ⌝ }
 {
     if entry.count == 0 {
@@ -43,15 +47,15 @@ pub fn judge_list(image: &[u8], docs: u64, term: usize, due: usize) -> Listed
     requires { ⌜ (docs < 16777216) × (length (now image) < 16777216) × (16 + 8 * term ≤ length (now image)) × (due ≤ 8 * length (now image)) ⌝ }
     ensures { λ r. ⌜ listSays term r ≡ keep stopOf (termsAt (now (image .entry)) docs term due 1) ⌝ }
 {
-    let entry = super::fields::read_entry(image, term);
+    let entry = read_entry(image, term);
     if !entry_fits(docs, due, entry) {
         return Listed::Wrong(4);
     }
     let largest = entry.largest;
-    let found = super::list::judge_blocks(image, docs, due, entry.count);
+    let found = judge_blocks(image, docs, due, entry.count);
     match found {
-        super::list::Blocks::Wrong(number) => Listed::Wrong(number),
-        super::list::Blocks::Good(stop, top) => {
+        Blocks::Wrong(number) => Listed::Wrong(number),
+        Blocks::Good(stop, top) => {
             if largest != top {
                 return Listed::Wrong(7);
             }

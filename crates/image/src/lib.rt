@@ -1,8 +1,8 @@
 // Judging an image: any bytes at all, refusals 1 to 8 of document 01 in its order, or what an accepted image holds.
-pub mod block;
-pub mod directory;
-pub mod fields;
-pub mod list;
+mod block;
+mod directory;
+mod fields;
+mod list;
 
 ghost use mathlib.Core.Path.{_≡_};
 ghost use Prim.Native.Nat.{ℕ, _-_, _*_, _≤_, _<_};
@@ -29,6 +29,7 @@ fn ends_well(image: &[u8], stop: usize) -> bool
     bits::field(&image[byte..], stop % 8, left) == 0
 }
 
+// Refusals 1, 2 and 3, then those of the terms in order, then 8: "The first fault found is the one given, and none is given otherwise."
 pub fn judge(image: &[u8]) -> Verdict
     ensures { λ r. ⌜ verdict r ≡ sizesOf (imageOf (now (image .entry))) ⌝ }
 {

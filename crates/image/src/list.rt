@@ -1,4 +1,7 @@
 // "A list is a row of blocks", the next at the bit after the one before, "in the middle of a byte or not".
+use super::block::Block;
+use super::block::judge_block;
+use super::block::larger;
 ghost use mathlib.Core.Path.{_≡_};
 ghost use Prim.Native.Nat.{ℕ, _*_, _≤_, _<_};
 ghost use lib.ListN.{length};
@@ -24,16 +27,16 @@ pub fn judge_blocks(image: &[u8], docs: u64, start: usize, count: usize) -> Bloc
     let mut top: u64 = 0;
     while 0 < left {
         let byte = bit / 8;
-        let found = super::block::judge_block(&image[byte..], docs, bit % 8, next, left);
+        let found = judge_block(&image[byte..], docs, bit % 8, next, left);
         match found {
-            super::block::Block::Wrong(number) => {
+            Block::Wrong(number) => {
                 return Blocks::Wrong(number);
             }
-            super::block::Block::Good(size, postings, after, largest) => {
+            Block::Good(size, postings, after, largest) => {
                 bit += size;
                 next = after;
                 left -= postings;
-                top = super::block::larger(top, largest);
+                top = larger(top, largest);
             }
         }
     }

@@ -1,7 +1,6 @@
 -- At most 7 bits, and the field that they are.
-use Prim.Native.Nat.{ℕ, _+_, _-_, _*_, _/_, _%_}
-use mathlib.Core.Path.{_≡_, ap, _∙_}
-use mathlib.Core.Bool.{Bool}
+use Prim.Native.Nat.{ℕ, _-_, _*_, _/_}
+use mathlib.Core.Path.{ap, _∙_}
 use native.Mathlib.Omega.{arith}
 use lib.Dec.{eqb}
 use lib.ListN.{length}

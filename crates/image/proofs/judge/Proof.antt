@@ -1,43 +1,34 @@
 -- Refusals 1, 2 and 3 in turn; then what the lists say, and refusal 8.
-use Prim.Native.Nat.{ℕ, _+_, _*_, _≤_, _<_}
+use Prim.Native.Nat.{_+_, _*_, _≤_}
 use mathlib.Core.Path.{_≡_, sym, ap, _∙_}
 use native.Mathlib.Omega.{arith}
 use lib.ListN.{length}
 use borrow.Author.Needs.{needs}
-use borrow.Author.Tests.{le-leb, lt-leb, eq-eqb, ne-eqb, not-true, not-false}
-use Rattle.meaning.specs.Judged.{Judged, good, _>>=_, need}
+use borrow.Author.Tests.{lt-leb, eq-eqb, ne-eqb, not-true, not-false}
+use Rattle.meaning.specs.Judged.{_>>=_}
 use Rattle.meaning.specs.Image.{imageOf}
 use Rattle.image.specs.declared.directory.Lists.{Lists}
 use Rattle.image.specs.Fields.{headerFields}
 use Rattle.image.specs.Answers.{listsSay}
-use Rattle.image.specs.Verdict.{Sizes, sizesOf, endsWell}
+use Rattle.image.specs.Verdict.{sizesOf}
 use Rattle.image.specs.DirectoryLaws.{stop-inside}
-use Rattle.image.specs.VerdictLaws.{Bounded, header-bounded, judgedWith, image-short, image-is}
+use Rattle.image.specs.VerdictLaws.{Bounded, header-bounded, ending, image-short, image-version, image-length, image-there}
 use Rattle.image.proofs.judge.Statement.{statement}
 use Rattle.image.proofs.judge.Tie as tie
-
-header : (c : tie.After-read-header) → sizesOf (imageOf (c .before .before .before .args .image .now)) ≡ judgedWith (c .before .before .before .args .image .now) (headerFields (c .read-header .result))
-header c = image-is (c .before .before .before .args .image .now) (headerFields (c .read-header .result)) (c .read-header .ensures) (c .before .if1 .left)
 
 bounded : (c : tie.After-read-header) → Bounded (headerFields (c .read-header .result))
 bounded c = header-bounded (c .before .before .before .args .image .now) (headerFields (c .read-header .result)) (c .read-header .ensures)
 
--- refusal 8, or the sizes, where the last list ends at bit `stop`
-abbrev ending : tie.After-read-header → ℕ → Judged Sizes
-ending c stop =
-    need (endsWell (c .before .before .before .args .image .now) stop) 8 (c .read-header .result .terms)
-    >>= λ _. good (record { terms = c .read-header .result .terms; docs = c .read-header .result .docs })
-
--- what the meaning says, by the lists
+-- what the meaning says, by what was found of the lists
 found :
     (c : tie.After-judge-lists) (r : Lists) → c .judge-lists .result ≡ r →
     let h = c .before .before .before .before in
-    sizesOf (imageOf (h .before .before .before .args .image .now)) ≡ (listsSay r >>= ending h)
+    let s = h .before .before .before .args .image .now in
+    sizesOf (imageOf s) ≡ (listsSay r >>= ending s (headerFields (h .read-header .result)))
 found c r q =
     let h = c .before .before .before .before in
-    header h
-    ∙ rw (eq-eqb _ _ (c .before .before .before .if2 .left), eq-eqb _ _ (c .before .before .if3 .left), le-leb _ _ (c .before .if4 .left))
-    (ap (λ (m : Judged ℕ). m >>= ending h) (sym (c .judge-lists .ensures) ∙ ap listsSay q))
+    image-there (h .before .before .before .args .image .now) (headerFields (h .read-header .result)) (h .read-header .ensures) (h .before .if1 .left)
+    (c .before .before .before .if2 .left) (c .before .before .if3 .left) (c .before .if4 .left) (listsSay r) (ap listsSay (sym q) ∙ c .judge-lists .ensures)
 
 stops : (c : tie.After-found2) → c .found2 .given .0 .0 ≤ 8 * length (c .before .before .before .before .before .before .before .before .before .args .image .now)
 stops c =
@@ -55,10 +46,16 @@ read-header-requires : tie.Need-read-header-requires
 read-header-requires c κs = search needs
 
 returns-2 : tie.Need-returns-2
-returns-2 c = sym (header (c .before) ∙ rw (ne-eqb _ _ (c .if2 .taken)))
+returns-2 c =
+    let h = c .before in
+    sym (image-version (h .before .before .before .args .image .now) (headerFields (h .read-header .result)) (h .read-header .ensures) (h .before .if1 .left) (c .if2 .taken))
 
 returns-3 : tie.Need-returns-3
-returns-3 c = sym (header (c .before .before) ∙ rw (eq-eqb _ _ (c .before .if2 .left), ne-eqb _ _ (c .if3 .taken)))
+returns-3 c =
+    let h = c .before .before in
+    sym
+    (image-length (h .before .before .before .args .image .now) (headerFields (h .read-header .result)) (h .read-header .ensures) (h .before .if1 .left)
+    (c .before .if2 .left) (rw (ne-eqb _ _ (c .if3 .taken))))
 
 mul-if4 : tie.Need-mul-if4
 mul-if4 c = omega (arith, bounded (c .before .before) .terms)
@@ -67,7 +64,11 @@ add-if4 : tie.Need-add-if4
 add-if4 c = omega (arith, bounded (c .before .before) .terms)
 
 returns-4 : tie.Need-returns-4
-returns-4 c = sym (header (c .before .before .before) ∙ rw (eq-eqb _ _ (c .before .before .if2 .left), eq-eqb _ _ (c .before .if3 .left), lt-leb _ _ (c .if4 .taken)))
+returns-4 c =
+    let h = c .before .before .before in
+    sym
+    (image-length (h .before .before .before .args .image .now) (headerFields (h .read-header .result)) (h .read-header .ensures) (h .before .if1 .left)
+    (c .before .before .if2 .left) (rw (eq-eqb _ _ (c .before .if3 .left), lt-leb _ _ (c .if4 .taken))))
 
 judge-lists-requires : tie.Need-judge-lists-requires
 judge-lists-requires c κs = let b = bounded (c .before .before .before) in omega (arith, b .docs, b .bytes)

@@ -7,12 +7,12 @@ use lib.Dec.{leb}
 use lib.ListN.{length}
 use borrow.Author.Needs.{needs}
 use borrow.Author.Tests.{le-leb, lt-leb, eq-eqb, ne-eqb}
-use Rattle.meaning.specs.Judged.{Judged, bad, _>>=_}
+use Rattle.meaning.specs.Judged.{bad, _>>=_}
 use Rattle.meaning.specs.Layout.{sizeOf}
 use Rattle.meaning.specs.Image.{blockAt}
 use Rattle.image.specs.declared.block.Postings.{Postings}
 use Rattle.image.specs.Fields.{headFields}
-use Rattle.image.specs.Answers.{keep, Kept, postingsSay, takenOf}
+use Rattle.image.specs.Answers.{keep, postingsSay, takenOf}
 use Rattle.image.specs.BlockLaws.{Small, head-small, size-most, closing, block-cut, block-odd, block-there}
 use Rattle.image.proofs.block.judge_block.Statement.{statement}
 use Rattle.image.proofs.block.judge_block.Tie as tie
@@ -25,6 +25,9 @@ small c =
 size : (c : tie.After-read-head) → c .read-head .result .width ≤ 24 → c .read-head .result .count * (c .read-head .result .width + 8) ≤ 4096
 size c w = size-most (c .read-head .result .count) (c .read-head .result .width) (small c .few) w
 
+abbrev width : tie.After-read-head → ℕ
+width c = c .read-head .result .width
+
 -- refusal 5 where a head is there
 odd :
     (c : tie.After-read-head) (t : ℕ) →
@@ -35,35 +38,21 @@ odd :
 odd c t e =
     let a = c .before .before .before .args in
     ap (keep (takenOf (a .shift) (a .next)))
-    (sym (block-odd (a .part .now) (a .docs) t (a .shift) (a .next) (a .left) (headFields (c .read-head .result)) (c .read-head .ensures) (c .before .if1 .left) e))
+    (sym (block-odd (a .part .now) (a .docs) t (a .shift) (a .next) (a .left) (headFields (c .read-head .result)) (c .read-head .ensures) (omega arith) e))
 
 -- what the meaning says of the block, by what was found of its postings
 body :
-    (c : tie.After-judge-postings) (t : ℕ) →
+    (c : tie.After-judge-postings) (t : ℕ) (r : Postings) → c .judge-postings .result ≡ r →
     let h = c .before .before .before .before in
     let a = h .before .before .before .args in
     keep (takenOf (a .shift) (a .next)) (blockAt (a .part .now) (a .docs) t (a .shift) (a .next) (a .left))
-    ≡ (postingsSay t (c .judge-postings .result) >>= closing t (headFields (h .read-head .result)))
-body c t =
+    ≡ (postingsSay t r >>= closing t (headFields (h .read-head .result)))
+body c t r e =
     let h = c .before .before .before .before in
     let a = h .before .before .before .args in
     let head = headFields (h .read-head .result) in
-    block-there (a .part .now) (a .docs) t (a .shift) (a .next) (a .left) head (h .read-head .ensures) (h .before .if1 .left)
-    (c .before .before .before .if2 .left) (c .before .before .if3 .left) (c .before .if4 .left)
-    ∙ ap (λ (m : Judged Kept). m >>= closing t head) (sym (c .judge-postings .ensures t))
-
--- the same where the postings are good
-found :
-    (c : tie.After-found) (t : ℕ) →
-    let j = c .before .before in
-    let h = j .before .before .before .before in
-    let a = h .before .before .before .args in
-    let v = c .found .given .0 in
-    keep (takenOf (a .shift) (a .next)) (blockAt (a .part .now) (a .docs) t (a .shift) (a .next) (a .left))
-    ≡ closing t (headFields (h .read-head .result)) (record { next = v .0; largest = v .1 .0 })
-found c t =
-    let j = c .before .before in
-    body j t ∙ ap (λ (r : Postings). postingsSay t r >>= closing t (headFields (j .before .before .before .before .read-head .result))) (c .found .given .1)
+    block-there (a .part .now) (a .docs) t (a .shift) (a .next) (a .left) head (h .read-head .ensures) (omega arith)
+    (omega arith) (omega arith) (omega arith) (postingsSay t r) (ap (postingsSay t) (sym e) ∙ c .judge-postings .ensures t)
 
 mul-end : tie.Need-mul-end
 mul-end c = search needs
@@ -74,31 +63,31 @@ add-if1 c = search needs
 returns : tie.Need-returns
 returns c t =
     let a = c .before .before .args in
-    ap (keep (takenOf (a .shift) (a .next))) (sym (block-cut (a .part .now) (a .docs) t (a .shift) (a .next) (a .left) (c .if1 .taken)))
+    ap (keep (takenOf (a .shift) (a .next))) (sym (block-cut (a .part .now) (a .docs) t (a .shift) (a .next) (a .left) (omega arith)))
 
 read-head-requires : tie.Need-read-head-requires
 read-head-requires c κs = search needs
 
 returns-2 : tie.Need-returns-2
-returns-2 c t = odd (c .before) t (rw (lt-leb _ _ (c .if2 .taken)))
+returns-2 c t = odd (c .before) t (rw (lt-leb (width (c .before)) 24 (omega arith)))
 
 returns-3 : tie.Need-returns-3
-returns-3 c t = odd (c .before .before) t (rw (le-leb _ _ (c .before .if2 .left), lt-leb _ _ (c .if3 .taken)))
+returns-3 c t = odd (c .before .before) t (rw (le-leb (width (c .before .before)) 24 (omega arith), lt-leb _ _ (c .if3 .taken)))
 
 add-size : tie.Need-add-size
 add-size c = search needs
 
 mul-size : tie.Need-mul-size
-mul-size c = omega (arith, size (c .before .before) (c .before .if2 .left))
+mul-size c = omega (arith, size (c .before .before) (omega arith))
 
 add-size-2 : tie.Need-add-size-2
-add-size-2 c = omega (arith, size (c .before .before) (c .before .if2 .left))
+add-size-2 c = omega (arith, size (c .before .before) (omega arith))
 
 add-if4 : tie.Need-add-if4
-add-if4 c = omega (arith, size (c .before .before) (c .before .if2 .left))
+add-if4 c = omega (arith, size (c .before .before) (omega arith))
 
 returns-4 : tie.Need-returns-4
-returns-4 c t = odd (c .before .before .before) t (rw (le-leb _ _ (c .before .before .if2 .left), le-leb _ _ (c .before .if3 .left), lt-leb _ _ (c .if4 .taken)))
+returns-4 c t = odd (c .before .before .before) t (rw (le-leb (width (c .before .before .before)) 24 (omega arith), le-leb _ _ (c .before .if3 .left), lt-leb _ _ (c .if4 .taken)))
 
 add-judge-postings : tie.Need-add-judge-postings
 add-judge-postings c = search needs
@@ -116,18 +105,16 @@ add-if5 : tie.Need-add-if5
 add-if5 c = omega (arith, small (c .before .before .before .before .before .before .before) .last)
 
 returns-5 : tie.Need-returns-5
-returns-5 c t = sym (found (c .before .before) t ∙ rw (ne-eqb _ _ (c .if5 .taken)))
+returns-5 c t = sym (body (c .before .before .before .before) t _ (c .before .before .found .given .1) ∙ rw (ne-eqb _ _ (c .if5 .taken)))
 
 returns-6 : tie.Need-returns-6
-returns-6 c t = sym (found (c .before .before .before) t ∙ rw (eq-eqb _ _ (c .before .if5 .left), ne-eqb _ _ (c .if6 .taken)))
+returns-6 c t = sym (body (c .before .before .before .before .before) t _ (c .before .before .before .found .given .1) ∙ rw (eq-eqb _ _ (c .before .if5 .left), ne-eqb _ _ (c .if6 .taken)))
 
 returns-7 : tie.Need-returns-7
-returns-7 c t =
-    let j = c .before .before in
-    sym (body j t ∙ ap (λ (r : Postings). postingsSay t r >>= closing t (headFields (j .before .before .before .before .read-head .result))) (c .enum-told .given .1))
+returns-7 c t = sym (body (c .before .before) t _ (c .enum-told .given .1))
 
 returns-8 : tie.Need-returns-8
-returns-8 c t = sym (found (c .before .before .before) t ∙ rw (eq-eqb _ _ (c .before .if5 .left), eq-eqb _ _ (c .if6 .left)))
+returns-8 c t = sym (body (c .before .before .before .before .before) t _ (c .before .before .before .found .given .1) ∙ rw (eq-eqb _ _ (c .before .if5 .left), eq-eqb _ _ (c .if6 .left)))
 
 pub judge-block-spec : {M : Type 1} → statement M
 judge-block-spec =

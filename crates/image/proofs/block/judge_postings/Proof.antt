@@ -1,5 +1,5 @@
 -- What is kept of the postings so far, and of those to come, is what is kept of all.
-use Prim.Native.Nat.{ℕ, _+_, _-_, _*_, _/_, _%_, _≤_, _<_, max}
+use Prim.Native.Nat.{ℕ, _+_, _-_, _*_, _/_, _%_, _≤_, max}
 use mathlib.Core.Path.{_≡_, sym, _∙_}
 use mathlib.Core.Bool.{_&&_}
 use native.Mathlib.Omega.{arith}
@@ -24,13 +24,20 @@ Inv-loop part docs w start first n at₀ next₀ top₀ left₀ at next top left
 abbrev μ-loop : tie.MeasureT-loop
 μ-loop part docs w start first n at₀ next₀ top₀ left₀ at next top left = left
 
+-- the document at hand, and N
+abbrev doc : tie.After-field Inv-loop μ-loop → ℕ
+doc c = c .before .before .before .loop .next + c .field .result / 256
+
+abbrev docs : tie.After-field Inv-loop μ-loop → ℕ
+docs c = c .before .before .before .before .before .args .docs
+
 -- what is kept of all, by the posting at hand
 turn :
     (c : tie.After-field Inv-loop μ-loop) (t : ℕ) →
     let l = c .before .before .before in
     let a = l .before .before .args in
     let x = c .field .result in
-    let d = l .loop .next + x / 256 in
+    let d = doc c in
     keep (keptOf (a .first)) (postingsAt (a .part .now) (a .docs) t (a .w) (a .start) (a .first) (a .n))
     ≡ (need (ltb d (a .docs) && ltb 0 (x % 256)) 6 t
     >>= λ _. keep (keptFrom (max (l .loop .top) (x % 256)) (d + 1)) (postingsAt (a .part .now) (a .docs) t (a .w) (l .loop .at + a .w + 8) (d + 1) (l .loop .left - 1)))
@@ -70,12 +77,12 @@ add-doc : tie.Need-add-doc Inv-loop μ-loop
 add-doc c = search needs
 
 returns : tie.Need-returns Inv-loop μ-loop
-returns c t = sym (turn (c .before) t ∙ rw (le-ltb _ _ (c .if1 .taken)))
+returns c t = sym (turn (c .before) t ∙ rw (le-ltb (doc (c .before)) (docs (c .before)) (omega arith)))
 
 returns-2 : tie.Need-returns-2 Inv-loop μ-loop
 returns-2 c t =
     let f = c .before .before in
-    sym (turn f t ∙ rw (lt-ltb _ _ (c .before .if1 .left), le-ltb 0 (f .field .result % 256) (omega arith)))
+    sym (turn f t ∙ rw (lt-ltb (doc f) (docs f) (omega arith), le-ltb 0 (f .field .result % 256) (omega arith)))
 
 larger-requires : tie.Need-larger-requires Inv-loop μ-loop
 larger-requires c κs = search needs
@@ -103,7 +110,7 @@ loop-again c =
     let more = one-more (l .loop .left) (l .before .before .args .w) (i .loop-test .taken) in (
       omega arith,
       omega arith,
-      λ t. rw (c .larger .ensures) (sym (turn f t ∙ rw (lt-ltb _ _ (c .before .before .if1 .left), lt-ltb 0 (f .field .result % 256) (omega arith)))),
+      λ t. rw (c .larger .ensures) (sym (turn f t ∙ rw (lt-ltb (doc f) (docs f) (omega arith), lt-ltb 0 (f .field .result % 256) (omega arith)))),
     )
 
 returns-3 : tie.Need-returns-3 Inv-loop μ-loop

@@ -1,5 +1,4 @@
 -- The tests of refusal 4 in turn.
-use borrow.Author.Needs.{needs}
 use borrow.Author.Tests.{le-leb, lt-leb, eq-eqb, ne-eqb}
 use Rattle.image.proofs.directory.entry_fits.Statement.{statement}
 use Rattle.image.proofs.directory.entry_fits.Tie as tie

@@ -1,10 +1,10 @@
 -- What the terms so far leave to be said is what is said of all.
-use Prim.Native.Nat.{ℕ, _+_, _-_, _*_, _≤_, _<_}
-use mathlib.Core.Path.{_≡_, refl, sym, ap, _∙_}
+use Prim.Native.Nat.{_+_, _-_, _*_, _≤_}
+use mathlib.Core.Path.{_≡_, sym, ap, _∙_}
 use native.Mathlib.Omega.{arith}
 use lib.ListN.{length}
 use borrow.Author.Needs.{needs}
-use Rattle.meaning.specs.Judged.{Judged, _>>=_}
+use Rattle.meaning.specs.Judged.{_>>=_}
 use Rattle.meaning.specs.Image.{termsAt}
 use Rattle.image.specs.declared.directory.Listed.{Listed}
 use Rattle.image.specs.Answers.{keep, stopOf, listSays}
@@ -31,12 +31,9 @@ turn :
 turn c r e =
     let l = c .before .before in
     let a = l .before .before .args in
-    let less : a .terms - l .loop .term - 1 ≡ a .terms - (l .loop .term + 1) = omega arith in
     sym (l .loop .inv .2)
-    ∙ terms-turn (a .image .now) (a .docs) (l .loop .term) (l .loop .due) (a .terms - l .loop .term) (omega arith)
-    ∙ rw less
-    (ap (λ (m : Judged ℕ). m >>= λ stop. keep stopOf (termsAt (a .image .now) (a .docs) (l .loop .term + 1) stop (a .terms - (l .loop .term + 1))))
-    (sym (c .judge-list .ensures) ∙ ap (listSays (l .loop .term)) e))
+    ∙ terms-turn (a .image .now) (a .docs) (l .loop .term) (l .loop .due) (a .terms - l .loop .term) (a .terms - (l .loop .term + 1)) (omega arith)
+    (listSays (l .loop .term) r) (ap (listSays (l .loop .term)) (sym e) ∙ c .judge-list .ensures)
 
 mul-due : tie.Need-mul-due Inv-loop μ-loop
 mul-due c = search needs

@@ -1,5 +1,5 @@
 -- What is kept of the blocks so far, and of those to come, is what is kept of the list.
-use Prim.Native.Nat.{ℕ, _+_, _-_, _*_, _/_, _%_, _≤_, _<_, max}
+use Prim.Native.Nat.{ℕ, _+_, _-_, _*_, _/_, _≤_, max}
 use mathlib.Core.Path.{_≡_, sym, ap, _∙_}
 use native.Mathlib.Omega.{arith}
 use lib.ListN.{length}
@@ -25,14 +25,14 @@ abbrev μ-loop : tie.MeasureT-loop
 
 -- what the meaning says of the block at hand
 block :
-    (c : tie.After-judge-block Inv-loop μ-loop) (t : ℕ) →
+    (c : tie.After-judge-block Inv-loop μ-loop) (t : ℕ) (r : Block) → c .judge-block .result ≡ r →
     let l = c .before .before .before in
     let a = l .before .before .args in
-    blockSays t (c .judge-block .result) ≡ keep (takenOf (l .loop .bit) (l .loop .next)) (blockAt (a .image .now) (a .docs) t (l .loop .bit) (l .loop .next) (l .loop .left))
-block c t =
+    blockSays t r ≡ keep (takenOf (l .loop .bit) (l .loop .next)) (blockAt (a .image .now) (a .docs) t (l .loop .bit) (l .loop .next) (l .loop .left))
+block c t r e =
     let l = c .before .before .before in
     let a = l .before .before .args in
-    c .judge-block .ensures t ∙ block-part (a .image .now) (a .docs) t (l .loop .bit) (l .loop .next) (l .loop .left) (l .loop .inv .0)
+    ap (blockSays t) (sym e) ∙ c .judge-block .ensures t ∙ block-part (a .image .now) (a .docs) t (l .loop .bit) (l .loop .next) (l .loop .left) (l .loop .inv .0)
 
 -- what is kept of the list after a block that takes k
 abbrev rest : tie.At-loop Inv-loop μ-loop → ℕ → Taken → Judged Ended
@@ -52,7 +52,7 @@ turn c t r e =
     let a = l .before .before .args in
     sym (l .loop .inv .2 t)
     ∙ blocks-turn (a .image .now) (a .docs) t (l .loop .bit) (l .loop .next) (l .loop .left) (l .loop .top) (c .before .before .loop-test .taken)
-    ∙ ap (λ (m : Judged Taken). m >>= rest l t) (sym (block c t) ∙ ap (blockSays t) e)
+    (blockSays t r) (block c t r e)
 
 -- what a good block takes
 fits :
@@ -66,7 +66,7 @@ fits c =
     let l = j .before .before .before in
     let a = l .before .before .args in
     block-fits (a .image .now) (a .docs) 0 (l .loop .bit) (l .loop .next) (l .loop .left) _ (l .loop .inv .1)
-    (ap (blockSays 0) (sym (c .found2 .given .1)) ∙ block j 0)
+    (block j 0 _ (c .found2 .given .1))
 
 loop-holds : tie.Need-loop-holds Inv-loop μ-loop
 loop-holds c =
