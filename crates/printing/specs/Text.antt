@@ -4,8 +4,7 @@ use Prim.Native.Nat.{ℕ, zero, suc, _+_, _*_, _/_, _%_}
 use mathlib.Core.Bool.{cond}
 use mathlib.Core.List.{List, [], _∷_, _++_}
 use lib.Dec.{ltb}
-use lib.ListN.{take, drop, set}
-use Rattle.meaning.specs.Judged.{Judged, good, bad}
+use lib.ListN.{getD, set}
 use Rattle.meaning.specs.Sheet.{Query}
 
 -- a number of at most n digits, most significant first
@@ -25,20 +24,20 @@ pairLine a b = decimal a ++ (32 ∷ []) ++ decimal b ++ (10 ∷ [])
 unfoldable pub firstLine : ℕ → ℕ → ℕ → List ℕ
 firstLine a b c = decimal a ++ (32 ∷ []) ++ pairLine b c
 
--- the first n rows of those that follow an answer's three numbers
-unfoldable pub rowLines : ℕ → List ℕ → List ℕ
-rowLines (suc n) (d ∷ s ∷ rest) = pairLine d s ++ rowLines n rest
-rowLines n rest = []
+-- n rows of the answer row, from number `at` on
+unfoldable pub rowLines : List ℕ → ℕ → ℕ → List ℕ
+rowLines row at zero = []
+rowLines row at (suc n) = pairLine (getD row at 0) (getD row (at + 1) 0) ++ rowLines row (at + 2) n
 
--- a query's answer: as many rows as it found
-unfoldable pub answerLines : List ℕ → List ℕ
-answerLines (p ∷ found ∷ scored ∷ rest) = firstLine p found scored ++ rowLines found rest
-answerLines rest = []
+-- the answer in the stretch from number `at` on: as many rows as it found
+unfoldable pub answerLines : List ℕ → ℕ → List ℕ
+answerLines row at =
+    firstLine (getD row at 0) (getD row (at + 1) 0) (getD row (at + 2) 0) ++ rowLines row (at + 3) (getD row (at + 1) 0)
 
--- each query's, from its own stretch
-unfoldable pub sheetLines : List Query → List ℕ → List ℕ
-sheetLines [] row = []
-sheetLines (q ∷ qs) row = answerLines (take (3 + 2 * q .k) row) ++ sheetLines qs (drop (3 + 2 * q .k) row)
+-- each query's answer, from its own stretch
+unfoldable pub sheetLines : List ℕ → ℕ → List Query → List ℕ
+sheetLines row at [] = []
+sheetLines row at (q ∷ qs) = answerLines row at ++ sheetLines row (at + 3 + 2 * q .k) qs
 
 -- "`refused` with number and place, as `refused 8 1` for P7"
 unfoldable pub refusedLine : ℕ → ℕ → List ℕ
