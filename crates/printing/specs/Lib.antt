@@ -5,3 +5,4 @@ pub mod Decide
 pub mod Numbers
 pub mod TextLaws
 pub mod LaidLaws
+pub mod NumbersLaws

@@ -1,7 +1,8 @@
 -- "32-bit numbers, most significant byte first": the numbers that a row of bytes holds, one for each whole group of four.
-use Prim.Native.Nat.{ℕ, _+_, _*_}
-use mathlib.Core.List.{List, [], _∷_}
-use lib.ListN.{getD}
+use Prim.Native.Nat.{ℕ, _+_, _*_, _/_, min}
+use mathlib.Core.Path.{_≡_}
+use mathlib.Core.List.{List, [], _∷_, _++_}
+use lib.ListN.{length, take, drop}
 
 -- a number from its four bytes
 abbrev pub fourBytes : ℕ → ℕ → ℕ → ℕ → ℕ
@@ -14,6 +15,7 @@ numbersOf (a ∷ b ∷ []) = []
 numbersOf (a ∷ b ∷ c ∷ []) = []
 numbersOf (a ∷ b ∷ c ∷ d ∷ rest) = fourBytes a b c d ∷ numbersOf rest
 
--- the number whose four bytes stand from byte `at` on
-abbrev pub numberAt : List ℕ → ℕ → ℕ
-numberAt s at = fourBytes (getD s at 0) (getD s (at + 1) 0) (getD s (at + 2) 0) (getD s (at + 3) 0)
+-- a row before and after its first n numbers were taken from bytes: as many as there are, and as there is room for
+pub record Taken (bytes before after : List ℕ) (n : ℕ) : Type 0 where
+  pub count-is : n ≡ min (length bytes / 4) (length before)
+  pub row-is : after ≡ take n (numbersOf bytes) ++ drop n before

@@ -81,3 +81,12 @@ module _ (row : List ℕ) where
   answer-length at k h =
       simp length-append
       (omega (arith, first-length (getD row at 0) (getD row (at + 1) 0) (getD row (at + 2) 0), rows-length (at + 3) (getD row (at + 1) 0)))
+
+  -- the queries that are left, one by one
+  pub sheet-next : (at : ℕ) (q : Query) (qs : List Query) → sheetLines row at (q ∷ qs) ≡ answerLines row at ++ sheetLines row (at + (3 + 2 * q .k)) qs
+  unfolding sheetLines
+  sheet-next at q qs = let e : at + (3 + 2 * q .k) ≡ at + 3 + 2 * q .k = omega arith in rw e
+
+  pub sheet-end : (at : ℕ) → sheetLines row at [] ≡ []
+  unfolding sheetLines
+  sheet-end at = refl

@@ -1,15 +1,15 @@
 // What the printing program prints, laid into a lent buffer, and what it decides and reads before. Document 01, "The printing program".
 // Each writer lays its text from byte `at` on and answers the place after it; what is past the buffer's end is left out.
 ghost use mathlib.Core.Path.{_≡_};
-ghost use Prim.Native.Nat.{ℕ, _+_, _*_, _/_, _≤_, _<_, min};
-ghost use mathlib.Core.List.{[], _∷_, _++_};
-ghost use lib.ListN.{length, getD, take, drop};
+ghost use Prim.Native.Nat.{ℕ, _+_, _*_, _≤_, min};
+ghost use mathlib.Core.List.{[], _∷_};
+ghost use lib.ListN.{length, getD};
 ghost use Rattle.printing.specs.Text.{decimal as Text·decimal};
 ghost use Rattle.printing.specs.Text.{pairLine, firstLine, rowLines, answerLines, refusedLine};
 ghost use Rattle.printing.specs.Laid.{Wrote, Within};
 ghost use Rattle.printing.specs.Printable.{Printable, Printed};
 ghost use Rattle.printing.specs.Decide.{decided, decisionLine};
-ghost use Rattle.printing.specs.Numbers.{numberAt, numbersOf};
+ghost use Rattle.printing.specs.Numbers.{fourBytes, Taken};
 
 // What the program's two files come to: one of three lines, or an answer to be asked for.
 pub enum Decision {
@@ -140,25 +140,18 @@ pub fn answers(out: &mut [u8], sheet: &[u32], row: &[u32]) -> usize
 
 // What the program's two files come to: whether each is there, and how many bytes it has.
 pub fn decide(index_there: bool, index_bytes: usize, sheet_there: bool, sheet_bytes: usize) -> Decision
-    ensures { λ r. ⌜ r ≡ decided index_there index_bytes sheet_there sheet_bytes ⌝ }
+    ensures { λ r. ⌜ r ≡ decided «index_there» «index_bytes» «sheet_there» «sheet_bytes» ⌝ }
 {
-    if !index_there {
+    if !index_there | !sheet_there {
         return Decision::NoFile;
     }
-    if !sheet_there {
-        return Decision::NoFile;
-    }
-    if 65536 < index_bytes {
+    if (65536 < index_bytes) | (9220 < sheet_bytes) {
         return Decision::TooLarge;
     }
-    if 9220 < sheet_bytes {
-        return Decision::TooLarge;
+    if sheet_bytes % 4 != 0 {
+        return Decision::OddSheet;
     }
-    if sheet_bytes % 4 == 0 {
-        Decision::Go
-    } else {
-        Decision::OddSheet
-    }
+    Decision::Go
 }
 
 // The line of a decision; none where an answer is to be asked for.
@@ -179,30 +172,22 @@ fn least(a: usize, b: usize) -> usize
     if a < b { a } else { b }
 }
 
-fn from_byte(x: u8) -> u32
-    ensures { λ r. ⌜ r ≡ x ⌝ }
+// A number from its four bytes, most significant first.
+fn four_bytes(a: u8, b: u8, c: u8, d: u8) -> u32
+    ensures { λ r. ⌜ r ≡ fourBytes a b c d ⌝ }
 {
-    x as u32
-}
-
-// The number whose four bytes stand from byte `at` on.
-fn number_at(bytes: &[u8], at: usize) -> u32
-    requires { ⌜ at + 4 ≤ length (now bytes) ⌝ }
-    ensures { λ r. ⌜ r ≡ numberAt (now (bytes .entry)) at ⌝ }
-{
-    let high = from_byte(bytes[at]) * 256 + from_byte(bytes[at + 1]);
-    (high * 256 + from_byte(bytes[at + 2])) * 256 + from_byte(bytes[at + 3])
+    ((a as u32 * 256 + b as u32) * 256 + c as u32) * 256 + d as u32
 }
 
 // The numbers that the bytes hold, as many as there is room for; and how many.
 pub fn numbers(bytes: &[u8], out: &mut [u32]) -> usize
-    ensures { λ r. ⌜ r ≡ min (length (now (bytes .entry)) / 4) (length (now (out .entry))) ⌝ }
-    ensures { λ r. ⌜ now (out .exit) ≡ take r (numbersOf (now (bytes .entry))) ++ drop r (now (out .entry)) ⌝ }
+    ensures { λ r. ⌜ Taken (now (bytes .entry)) (now (out .entry)) (now (out .exit)) r ⌝ }
 {
     let n = least(bytes.len() / 4, out.len());
     let mut i = 0;
     while i < n {
-        out[i] = number_at(bytes, 4 * i);
+        let at = 4 * i;
+        out[i] = four_bytes(bytes[at], bytes[at + 1], bytes[at + 2], bytes[at + 3]);
         i += 1;
     }
     n

@@ -1,76 +1,66 @@
-use mathlib.Core.Path.{_≡_, refl, sym, ap, _∙_}
-use Prim.Native.Nat.{ℕ, suc, _+_, _-_, _*_, _≤_, _<_}
+-- `printing::answers` meets its contract: laying the answers of the queries that are left lays them all.
+use Prim.Native.Nat.{ℕ, _-_}
 use native.Mathlib.Omega.{arith}
-use lib.ListN.{length, take, drop, getD, set}
-use borrow.Author.Needs.{needs}
+use Rattle.printing.proofs.Queries.{Going, Turn, Sizes, start, one-number, turn, readable, lines-high, sizes, go-on, gone}
 use Rattle.printing.proofs.answers.Statement.{statement}
 use Rattle.printing.proofs.answers.Tie as tie
-use Rattle.printing.proofs.answers.Reads as reads
-use Rattle.printing.proofs.answers.Lts as lts
-use Rattle.printing.proofs.answer_lines.Reads as answer-lines-reads
-use Rattle.sheet.proofs.read.Reads as read-reads
 
 abbrev Inv-loop : tie.InvT-loop
-Inv-loop out₀ sheet row n i₀ query₀ from₀ at₀ out i query from at = ?
+Inv-loop out₀ sheet row n i₀ query₀ from₀ at₀ out i query from at = Going sheet row out₀ n i query from at out
 
 abbrev μ-loop : tie.MeasureT-loop
-μ-loop out₀ sheet row n i₀ query₀ from₀ at₀ out i query from at = ?
+μ-loop out₀ sheet row n i₀ query₀ from₀ at₀ out i query from at = n - i
 
--- src/lib.rt:126:13
 shared-slice-read-n : tie.Need-shared-slice-read-n Inv-loop μ-loop
-shared-slice-read-n c = search needs
+shared-slice-read-n c = one-number (c .before .before .before .before .pre)
 
--- src/lib.rt:131:5
 loop-holds : tie.Need-loop-holds Inv-loop μ-loop
-loop-holds c = search needs
+loop-holds c = start _ _ _ (c .before .before .before .before .pre)
 
--- src/lib.rt:132:13
+-- the query whose turn it is, and its record
+turned : (c : tie.In-loop Inv-loop μ-loop) → Turn (c .before .loop .inv)
+turned c = turn (c .before .loop .inv) (c .loop-test .taken)
+
+sized : (c : tie.After-read Inv-loop μ-loop) → Sizes (c .before .before .before .before .before .before .before .args .sheet .now) (c .before .before .before .before .before .before .before .args .row .now) (c .before .before .loop .from) (c .read .result)
+sized c = sizes (c .before .before .loop .inv) (turned (c .before)) (c .read .result) (c .read .ensures)
+
 read-requires : tie.Need-read-requires Inv-loop μ-loop
-read-requires c κs = search needs
+read-requires c κs = readable (c .before .loop .inv) (turned c)
 
--- src/lib.rt:133:9
 answer-lines-requires : tie.Need-answer-lines-requires Inv-loop μ-loop
-answer-lines-requires c κs = search needs
+answer-lines-requires c κs = omega (arith, c .before .before .before .loop .inv .near, lines-high (c .before .before .before .loop .inv) (turned (c .before .before)))
 
--- src/lib.rt:134:31
 mul-query : tie.Need-mul-query Inv-loop μ-loop
-mul-query c = search needs
+mul-query c = omega (arith, sized (c .before .before .before .before .before))
 
--- src/lib.rt:134:17
 add-query : tie.Need-add-query Inv-loop μ-loop
-add-query c = search needs
+add-query c = omega (arith, sized (c .before .before .before .before .before .before))
 
--- src/lib.rt:135:21
 mul-from : tie.Need-mul-from Inv-loop μ-loop
-mul-from c = search needs
+mul-from c = omega (arith, sized (c .before .before .before .before .before .before .before))
 
--- src/lib.rt:135:17
 add-from : tie.Need-add-from Inv-loop μ-loop
-add-from c = search needs
+add-from c = omega (arith, sized (c .before .before .before .before .before .before .before))
 
--- src/lib.rt:135:9
 add-from-2 : tie.Need-add-from-2 Inv-loop μ-loop
-add-from-2 c = search needs
+add-from-2 c = omega (arith, sized (c .before .before .before .before .before .before .before), c .before .before .before .before .before .before .before .before .before .before .before .before .before .before .good)
 
--- src/lib.rt:136:9
 add-i : tie.Need-add-i Inv-loop μ-loop
-add-i c = search needs
+add-i c = omega (arith, c .before .before .before .before .before .before .before .before .before .loop .inv .few)
 
--- src/lib.rt:131:5
 loop-less : tie.Need-loop-less Inv-loop μ-loop
-loop-less c = search needs
+loop-less c = omega (arith, c .before .before .before .before .before .before .before .before .loop-test .taken)
 
--- src/lib.rt:131:5
 loop-again : tie.Need-loop-again Inv-loop μ-loop
-loop-again c = search needs
+loop-again c =
+    let l = c .before .before .before .before .before .before .before .before in
+    go-on (l .before .loop .inv) (turned l) (c .before .before .before .before .before .before .before .read .result) (c .before .before .before .before .before .before .before .read .ensures) (l .loop-test .taken) (c .before .before .before .before .before .answer-lines .ensures)
 
--- src/lib.rt:122:1
 same-length : tie.Need-same-length Inv-loop μ-loop
-same-length c = search needs
+same-length c = c .before .loop .inv .lays .keeps
 
--- src/lib.rt:122:1
 returns : tie.Need-returns Inv-loop μ-loop
-returns c = search needs
+returns c = gone (c .before .loop .inv) (c .loop-test .left)
 
 pub answers-spec : {M : Type 1} → statement M
 answers-spec =

@@ -1,81 +1,64 @@
-use mathlib.Core.Path.{_≡_, refl, sym, ap, _∙_}
-use Prim.Native.Nat.{ℕ, suc, _+_, _-_, _*_, _≤_, _<_}
-use native.Mathlib.Omega.{arith}
-use lib.ListN.{length, take, drop, getD, set}
+-- `printing::decision_line` meets its contract: the words of each decision.
 use borrow.Author.Needs.{needs}
+use Rattle.printing.specs.Decide.{decisionLine}
+use Rattle.printing.specs.LaidLaws.{wrote-none, wrote-length}
 use Rattle.printing.proofs.decision_line.Statement.{statement}
 use Rattle.printing.proofs.decision_line.Tie as tie
-use Rattle.printing.proofs.decision_line.Reads as reads
-use Rattle.printing.proofs.decision_line.Lts as lts
-use Rattle.printing.proofs.words.Reads as words-reads
 
--- src/lib.rt:169:35
 enum-told : tie.Need-enum-told
 enum-told c = search needs
 
--- src/lib.rt:169:43
 slice-aggregate-words : tie.Need-slice-aggregate-words
 slice-aggregate-words c = search needs
 
--- src/lib.rt:169:29
 words-requires : tie.Need-words-requires
 words-requires c κs = search needs
 
--- src/lib.rt:170:37
 enum-told-2 : tie.Need-enum-told-2
 enum-told-2 c = search needs
 
--- src/lib.rt:170:45
 slice-aggregate-words-2 : tie.Need-slice-aggregate-words-2
 slice-aggregate-words-2 c = search needs
 
--- src/lib.rt:170:31
 words-requires-2 : tie.Need-words-requires-2
 words-requires-2 c κs = search needs
 
--- src/lib.rt:171:37
 enum-told-3 : tie.Need-enum-told-3
 enum-told-3 c = search needs
 
--- src/lib.rt:171:45
 slice-aggregate-words-3 : tie.Need-slice-aggregate-words-3
 slice-aggregate-words-3 c = search needs
 
--- src/lib.rt:171:31
 words-requires-3 : tie.Need-words-requires-3
 words-requires-3 c κs = search needs
 
--- src/lib.rt:172:25
 enum-told-4 : tie.Need-enum-told-4
 enum-told-4 c = search needs
 
--- src/lib.rt:165:1
-same-length : tie.Need-same-length
-same-length c = search needs
-
--- src/lib.rt:165:1
 returns : tie.Need-returns
-returns c = search needs
+unfolding decisionLine
+returns c = rw (c .before .before .before .before .before .enum-told .given .1) (c .before .before .words .ensures)
 
--- src/lib.rt:165:1
-same-length-2 : tie.Need-same-length-2
-same-length-2 c = search needs
+same-length : tie.Need-same-length
+same-length c = wrote-length (returns c)
 
--- src/lib.rt:165:1
 returns-2 : tie.Need-returns-2
-returns-2 c = search needs
+unfolding decisionLine
+returns-2 c = rw (c .before .before .before .before .before .enum-told2 .given .1) (c .before .before .words2 .ensures)
 
--- src/lib.rt:165:1
-same-length-3 : tie.Need-same-length-3
-same-length-3 c = search needs
+same-length-2 : tie.Need-same-length-2
+same-length-2 c = wrote-length (returns-2 c)
 
--- src/lib.rt:165:1
 returns-3 : tie.Need-returns-3
-returns-3 c = search needs
+unfolding decisionLine
+returns-3 c = rw (c .before .before .before .before .before .enum-told3 .given .1) (c .before .before .words3 .ensures)
 
--- src/lib.rt:165:1
+same-length-3 : tie.Need-same-length-3
+same-length-3 c = wrote-length (returns-3 c)
+
 returns-4 : tie.Need-returns-4
-returns-4 c = search needs
+unfolding decisionLine
+returns-4 c = rw (c .enum-told4 .given .1) (wrote-none 0 _)
 
 pub decision-line-spec : {M : Type 1} → statement M
 decision-line-spec =

@@ -1,64 +1,86 @@
-use mathlib.Core.Path.{_≡_, refl, sym, ap, _∙_}
-use Prim.Native.Nat.{ℕ, suc, _+_, _-_, _*_, _≤_, _<_}
+-- `printing::numbers` meets its contract: after i turns the first i numbers stand, and the rest of the row is as it came.
+use mathlib.Core.Path.{_≡_, refl}
+use Prim.Native.Nat.{_-_, _/_, _≤_, min}
 use native.Mathlib.Omega.{arith}
-use lib.ListN.{length, take, drop, getD, set}
-use borrow.Author.Needs.{needs}
+use lib.ListN.{length, take}
+use Rattle.lists.specs.Front.{front}
+use Rattle.printing.specs.Numbers.{numbersOf}
+use Rattle.printing.specs.NumbersLaws.{numbers-turn, numbers-keep}
 use Rattle.printing.proofs.numbers.Statement.{statement}
 use Rattle.printing.proofs.numbers.Tie as tie
-use Rattle.printing.proofs.numbers.Reads as reads
-use Rattle.printing.proofs.numbers.Lts as lts
-use Rattle.printing.proofs.least.Reads as least-reads
-use Rattle.printing.proofs.number_at.Reads as number-at-reads
 
 abbrev Inv-loop : tie.InvT-loop
-Inv-loop bytes out₀ n i₀ out i = ?
+Inv-loop bytes out₀ n i₀ out i =
+    (i ≤ n) × (n ≡ min (length bytes / 4) (length out₀)) × (out ≡ front (take i (numbersOf bytes)) i out₀)
 
 abbrev μ-loop : tie.MeasureT-loop
-μ-loop bytes out₀ n i₀ out i = ?
+μ-loop bytes out₀ n i₀ out i = n - i
 
--- src/lib.rt:202:9
+kept : (c : tie.At-loop Inv-loop μ-loop) → length (c .loop .out) ≡ length (c .before .before .before .before .args .out .now)
+kept c =
+    rw (c .loop .inv .2)
+    (numbers-keep (c .before .before .before .before .args .bytes .now) (c .before .before .before .before .args .out .now) (c .loop .i) (omega arith) (omega arith))
+
 least-requires : tie.Need-least-requires Inv-loop μ-loop
-least-requires c κs = search needs
+least-requires c κs = omega arith
 
--- src/lib.rt:204:5
 loop-holds : tie.Need-loop-holds Inv-loop μ-loop
-loop-holds c = search needs
+loop-holds c = (omega arith, c .least .ensures, refl)
 
--- src/lib.rt:205:35
-mul-number-at : tie.Need-mul-number-at Inv-loop μ-loop
-mul-number-at c = search needs
+mul-at : tie.Need-mul-at Inv-loop μ-loop
+mul-at c = omega arith
 
--- src/lib.rt:205:18
-number-at-requires : tie.Need-number-at-requires Inv-loop μ-loop
-number-at-requires c κs = search needs
+shared-slice-read-four-bytes : tie.Need-shared-slice-read-four-bytes Inv-loop μ-loop
+shared-slice-read-four-bytes c = omega arith
 
--- src/lib.rt:205:9
+add-four-bytes : tie.Need-add-four-bytes Inv-loop μ-loop
+add-four-bytes c = omega arith
+
+shared-slice-read-four-bytes-2 : tie.Need-shared-slice-read-four-bytes-2 Inv-loop μ-loop
+shared-slice-read-four-bytes-2 c = omega arith
+
+add-four-bytes-2 : tie.Need-add-four-bytes-2 Inv-loop μ-loop
+add-four-bytes-2 c = omega arith
+
+shared-slice-read-four-bytes-3 : tie.Need-shared-slice-read-four-bytes-3 Inv-loop μ-loop
+shared-slice-read-four-bytes-3 c = omega arith
+
+add-four-bytes-3 : tie.Need-add-four-bytes-3 Inv-loop μ-loop
+add-four-bytes-3 c = omega arith
+
+shared-slice-read-four-bytes-4 : tie.Need-shared-slice-read-four-bytes-4 Inv-loop μ-loop
+shared-slice-read-four-bytes-4 c = omega arith
+
+four-bytes-requires : tie.Need-four-bytes-requires Inv-loop μ-loop
+four-bytes-requires c κs = omega arith
+
 mul-out : tie.Need-mul-out Inv-loop μ-loop
-mul-out c = search needs
+mul-out c = omega arith
 
--- src/lib.rt:205:9
 slice-write-out : tie.Need-slice-write-out Inv-loop μ-loop
-slice-write-out c = search needs
+slice-write-out c = omega (arith, kept (c .before .before .before .before .before .before))
 
--- src/lib.rt:206:9
 add-i : tie.Need-add-i Inv-loop μ-loop
-add-i c = search needs
+add-i c = omega arith
 
--- src/lib.rt:204:5
 loop-less : tie.Need-loop-less Inv-loop μ-loop
-loop-less c = search needs
+loop-less c = omega arith
 
--- src/lib.rt:204:5
 loop-again : tie.Need-loop-again Inv-loop μ-loop
-loop-again c = search needs
+loop-again c =
+    let l = c .before .before .before .before .before .before .loop in
+    let bytes = c .before .before .before .before .before .before .before .before .before .before .args .bytes .now in
+    let out = c .before .before .before .before .before .before .before .before .before .before .args .out .now in
+    (omega arith, l .inv .1, rw (c .four-bytes .ensures) (numbers-turn bytes out (l .i) (l .out) (omega arith) (omega arith) (l .inv .2)))
 
--- src/lib.rt:198:1
 same-length : tie.Need-same-length Inv-loop μ-loop
-same-length c = search needs
+same-length c = kept (c .before)
 
--- src/lib.rt:198:1
 returns : tie.Need-returns Inv-loop μ-loop
-returns c = search needs
+returns c =
+    let l = c .before .loop in
+    let all : l .i ≡ c .before .before .least .result = omega arith in
+    record { count-is = l .inv .1; row-is = rw all at (l .inv .2) }
 
 pub numbers-spec : {M : Type 1} → statement M
 numbers-spec =
@@ -68,8 +90,15 @@ numbers-spec =
     μ-loop
     least-requires
     loop-holds
-    mul-number-at
-    number-at-requires
+    mul-at
+    shared-slice-read-four-bytes
+    add-four-bytes
+    shared-slice-read-four-bytes-2
+    add-four-bytes-2
+    shared-slice-read-four-bytes-3
+    add-four-bytes-3
+    shared-slice-read-four-bytes-4
+    four-bytes-requires
     mul-out
     slice-write-out
     add-i

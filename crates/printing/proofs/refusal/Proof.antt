@@ -1,34 +1,26 @@
-use mathlib.Core.Path.{_≡_, refl, sym, ap, _∙_}
-use Prim.Native.Nat.{ℕ, suc, _+_, _-_, _*_, _≤_, _<_}
+-- `printing::refusal` meets its contract: the word, and the two numbers.
 use native.Mathlib.Omega.{arith}
-use lib.ListN.{length, take, drop, getD, set}
 use borrow.Author.Needs.{needs}
+use Rattle.printing.specs.Text.{refusedLine}
+use Rattle.printing.specs.LaidLaws.{wrote-then, wrote-length}
 use Rattle.printing.proofs.refusal.Statement.{statement}
 use Rattle.printing.proofs.refusal.Tie as tie
-use Rattle.printing.proofs.refusal.Reads as reads
-use Rattle.printing.proofs.refusal.Lts as lts
-use Rattle.printing.proofs.pair_line.Reads as pair-line-reads
-use Rattle.printing.proofs.words.Reads as words-reads
 
--- src/lib.rt:117:28
 slice-aggregate-words : tie.Need-slice-aggregate-words
 slice-aggregate-words c = search needs
 
--- src/lib.rt:117:9
 words-requires : tie.Need-words-requires
 words-requires c κs = search needs
 
--- src/lib.rt:118:5
 pair-line-requires : tie.Need-pair-line-requires
 pair-line-requires c κs = search needs
 
--- src/lib.rt:114:1
-same-length : tie.Need-same-length
-same-length c = search needs
-
--- src/lib.rt:114:1
 returns : tie.Need-returns
-returns c = search needs
+unfolding refusedLine
+returns c = wrote-then (c .before .before .before .before .before .before .words .ensures) (c .before .before .pair-line .ensures)
+
+same-length : tie.Need-same-length
+same-length c = wrote-length (returns c)
 
 pub refusal-spec : {M : Type 1} → statement M
 refusal-spec =
