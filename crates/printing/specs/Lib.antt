@@ -5,4 +5,8 @@ pub mod Decide
 pub mod Numbers
 pub mod TextLaws
 pub mod LaidLaws
+pub mod DecideLaws
 pub mod NumbersLaws
+pub mod PrintableLaws
+pub mod OnlyLaws
+pub mod Examples

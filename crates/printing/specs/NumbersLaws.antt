@@ -1,13 +1,13 @@
--- Laws of the numbers that a row of bytes holds: how many, each of them, and a turn of the loop that takes them.
+-- Laws of the numbers that a row of bytes holds: how many, each of them, a turn of the loop that takes them, and all of them where there is room.
 use mathlib.Core.Path.{_≡_, refl, sym, _∙_}
 use mathlib.Core.List.{List, [], _∷_}
 use Prim.Native.Nat.{ℕ, zero, suc, _+_, _*_, _/_, _≤_, _<_}
 use native.Mathlib.Omega.{arith}
 use native.Mathlib.Numerals.{add-one}
-use lib.ListN.{length, getD, take, set, length-take}
-use lib.Seq.{take-suc, length-front}
+use lib.ListN.{length, getD, take, drop, set, length-take}
+use lib.Seq.{take-suc, take-all, take-at, length-front}
 use Rattle.lists.specs.Front.{front, front-set}
-use Rattle.printing.specs.Numbers.{fourBytes, numbersOf}
+use Rattle.printing.specs.Numbers.{fourBytes, numbersOf, Taken}
 
 pub numbers-length : (s : List ℕ) → length (numbersOf s) ≡ length s / 4
 unfolding numbersOf
@@ -47,3 +47,9 @@ module _ (s b : List ℕ) (i : ℕ) where
   -- the row keeps its length
   pub numbers-keep : i ≤ length s / 4 → i ≤ length b → length (front (take i (numbersOf s)) i b) ≡ length b
   numbers-keep h le = length-front b (take i (numbersOf s)) i (simp length-take (omega (arith, numbers-length s)))
+
+-- where there is room, the numbers taken are all that the bytes hold
+pub taken-whole : {bytes before after : List ℕ} {n : ℕ} → Taken bytes before after n → length bytes ≤ 4 * length before + 3 → take n after ≡ numbersOf bytes
+taken-whole {bytes} {before} {after} {n} t h =
+    let all : length (numbersOf bytes) ≡ n = omega (arith, numbers-length bytes, t .count-is) in
+    rw (t .row-is, take-all n (numbersOf bytes) (omega arith)) (take-at (numbersOf bytes) (drop n before) n all)

@@ -10,7 +10,7 @@ use lib.ListN.{length, getD, length-append}
 use borrow.Author.Tests.{lt-ltb, le-ltb}
 use Rattle.lists.specs.Tests.{by-order}
 use Rattle.meaning.specs.Sheet.{Query}
-use Rattle.printing.specs.Text.{digits, decimal, pairLine, firstLine, rowLines, answerLines, sheetLines}
+use Rattle.printing.specs.Text.{digits, decimal, pairLine, firstLine, rowLines, answerLines, sheetLines, refusedLine}
 
 digits-small : (n x : ℕ) → x < 10 → digits (suc n) x ≡ (48 + x) ∷ []
 unfolding digits
@@ -59,6 +59,10 @@ pair-length a b = simp length-append (omega (arith, decimal-length a, decimal-le
 pub first-length : (a b c : ℕ) → length (firstLine a b c) ≤ 63
 unfolding firstLine
 first-length a b c = simp length-append (omega (arith, decimal-length a, pair-length b c))
+
+pub refused-length : (n p : ℕ) → length (refusedLine n p) ≤ 50
+unfolding refusedLine
+refused-length n p = omega (arith, pair-length n p)
 
 module _ (row : List ℕ) where
   pub rows-length : (at n : ℕ) → length (rowLines row at n) ≤ 42 * n

@@ -139,7 +139,12 @@ pub fn answers(out: &mut [u8], sheet: &[u32], row: &[u32]) -> usize
 }
 
 // What the program's two files come to: whether each is there, and how many bytes it has.
-pub fn decide(index_there: bool, index_bytes: usize, sheet_there: bool, sheet_bytes: usize) -> Decision
+pub fn decide(
+    index_there: bool,
+    index_bytes: usize,
+    sheet_there: bool,
+    sheet_bytes: usize,
+) -> Decision
     ensures { λ r. ⌜ r ≡ decided «index_there» «index_bytes» «sheet_there» «sheet_bytes» ⌝ }
 {
     if !index_there | !sheet_there {
