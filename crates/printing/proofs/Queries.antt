@@ -10,11 +10,12 @@ use Rattle.meaning.specs.Sheet.{Pair, Query, queryAt, queriesAt, sheetOf}
 use Rattle.meaning.specs.Call.{needed}
 use Rattle.sheet.specs.declared.Record.{Record}
 use Rattle.sheet.specs.Record.{Readable, IsRecord, pairsFrom, recordOf}
-use Rattle.sheet.specs.QueryLaws.{Fair, pairs-length, query-is, query-fair, queries-next, queries-length, sheet-good}
+use Rattle.sheet.specs.QueryLaws.{Fair, pairs-length, query-fair, queries-next, queries-length, sheet-good}
 use Rattle.printing.specs.Text.{answerLines, sheetLines}
 use Rattle.printing.specs.TextLaws.{answer-length, sheet-next, sheet-end}
 use Rattle.printing.specs.Laid.{Wrote}
 use Rattle.printing.specs.Printable.{Found, Printable, Printed}
+use Rattle.printing.specs.PrintableLaws.{no-queries, sheet-same}
 use Rattle.printing.proofs.Laws.{Leaves, leaves-all, leaves-next, leaves-none}
 
 pub record Going (sheet row before : List ℕ) (n i query from at : ℕ) (out : List ℕ) : Type 0 where
@@ -139,29 +140,9 @@ module _ {sheet row before : List ℕ} {n i query from at : ℕ} {out : List ℕ
             lays = rw k-is (leaves-next (rw (t .first, sheet-next row from (t .asked) (t .rest)) at (g .lays)) w);
           }
 
-none-left : (l : List Query) → length l ≡ 0 → l ≡ []
-none-left [] e = refl
-none-left (q ∷ l) e = absurd (omega arith)
-
--- a sheet that is accepted for two numbers of terms has the same queries
-module _ (s : List ℕ) (T T′ : ℕ) where
-  queries-same :
-      (i at n : ℕ) (qs rs : List Query) → queriesAt s T i at n ≡ good qs → queriesAt s T′ i at n ≡ good rs → qs ≡ rs
-  queries-same i at zero qs rs e f = none-left qs (queries-length s T i at 0 qs e) ∙ sym (none-left rs (queries-length s T′ i at 0 rs f))
-  queries-same i at (suc n) [] rs e f = absurd (omega (arith, queries-length s T i at (suc n) [] e))
-  queries-same i at (suc n) (q ∷ qs) [] e f = absurd (omega (arith, queries-length s T′ i at (suc n) [] f))
-  queries-same i at (suc n) (q ∷ qs) (r ∷ rs) e f =
-      let x = queries-next s T i at n q qs e in
-      let y = queries-next s T′ i at n r rs f in
-      let first : r ≡ q = sym (query-is s T′ i at r (y .0)) ∙ query-is s T i at q (x .0) in
-      rw (first, queries-same (suc i) (at + 4 + 2 * length (q .pairs)) n qs rs (x .1) (rw first at (y .1)))
-
-  pub sheet-same : (qs rs : List Query) → sheetOf s T ≡ good qs → sheetOf s T′ ≡ good rs → qs ≡ rs
-  sheet-same qs rs e f = queries-same 0 1 (getD s 0 0) qs rs (sheet-good s T qs e .2) (sheet-good s T′ rs f .2)
-
 -- how the loop ends
 pub gone : {sheet row before out : List ℕ} {n i query from at : ℕ} → Going sheet row before n i query from at out → n ≤ i → Printed sheet row before out at
 gone {sheet} {row} {before} {out} {n} {i} {query} {from} {at} g le T qs e =
     let zero-left : n - i ≡ 0 = omega arith in
-    let ended = none-left (g .left) (queries-length sheet (g .T) i query (n - i) (g .left) (g .fine) ∙ zero-left) in
+    let ended = no-queries (g .left) (queries-length sheet (g .T) i query (n - i) (g .left) (g .fine) ∙ zero-left) in
     rw (sheet-same sheet T (g .T) qs (g .all) e (g .accepted)) (leaves-none (rw (ended, sheet-end) at (g .lays)))

@@ -1,8 +1,5 @@
 -- `printing::answer_lines` meets its contract: the first line, and then the rows.
-use Prim.Native.Nat.{_+_}
 use native.Mathlib.Omega.{arith}
-use lib.ListN.{getD}
-use borrow.Author.Needs.{needs}
 use Rattle.printing.specs.Text.{answerLines}
 use Rattle.printing.specs.TextLaws.{first-length}
 use Rattle.printing.specs.LaidLaws.{wrote-then, wrote-length}
@@ -10,55 +7,57 @@ use Rattle.printing.proofs.answer_lines.Statement.{statement}
 use Rattle.printing.proofs.answer_lines.Tie as tie
 
 add-found : tie.Need-add-found
-add-found c = search needs
+add-found c = omega arith
 
 mul-found : tie.Need-mul-found
-mul-found c = search needs
+mul-found c = omega arith
 
 shared-slice-read-found : tie.Need-shared-slice-read-found
-shared-slice-read-found c = search needs
+shared-slice-read-found c = omega arith
 
 mul-wide : tie.Need-mul-wide
-mul-wide c = search needs
+mul-wide c = omega arith
 
 shared-slice-read-wide : tie.Need-shared-slice-read-wide
-shared-slice-read-wide c = search needs
+shared-slice-read-wide c = omega arith
 
 wide-requires : tie.Need-wide-requires
-wide-requires c κs = search needs
+wide-requires c κs = omega arith
 
 wide-requires-2 : tie.Need-wide-requires-2
-wide-requires-2 c κs = search needs
+wide-requires-2 c κs = omega arith
 
 add-wide : tie.Need-add-wide
-add-wide c = search needs
+add-wide c = omega arith
 
 mul-wide-2 : tie.Need-mul-wide-2
-mul-wide-2 c = search needs
+mul-wide-2 c = omega arith
 
 shared-slice-read-wide-2 : tie.Need-shared-slice-read-wide-2
-shared-slice-read-wide-2 c = search needs
+shared-slice-read-wide-2 c = omega arith
 
 wide-requires-3 : tie.Need-wide-requires-3
-wide-requires-3 c κs = search needs
+wide-requires-3 c κs = omega arith
 
 first-line-requires : tie.Need-first-line-requires
-first-line-requires c κs = search needs
+first-line-requires c κs = omega arith
 
 add-row-lines : tie.Need-add-row-lines
-add-row-lines c = search needs
+add-row-lines c = omega arith
 
 cast-row-lines : tie.Need-cast-row-lines
-cast-row-lines c = search needs
+cast-row-lines c = omega arith
 
 row-lines-requires : tie.Need-row-lines-requires
 row-lines-requires c κs =
-    omega (arith, first-length (c .before .before .before .before .before .before .before .wide .result) (c .before .before .before .before .before .before .wide2 .result) (c .before .before .before .before .wide3 .result))
+    let l = c .before .before .before .before in
+    omega (arith, first-length (l .before .before .before .wide .result) (l .before .before .wide2 .result) (l .wide3 .result))
 
 returns : tie.Need-returns
 unfolding answerLines
 returns c =
-    let w = rw (c .before .before .before .before .before .before .before .before .before .before .wide .ensures, c .before .before .before .before .before .before .before .before .before .wide2 .ensures, c .before .before .before .before .before .before .before .wide3 .ensures) at (c .before .before .before .before .before .before .first-line .ensures) in
+    let l = c .before .before .before .before .before .before in
+    let w = rw (l .before .before .before .before .wide .ensures, l .before .before .before .wide2 .ensures, l .before .wide3 .ensures) at (l .first-line .ensures) in
     wrote-then w (c .before .before .row-lines .ensures)
 
 same-length : tie.Need-same-length

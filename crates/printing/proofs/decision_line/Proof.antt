@@ -1,4 +1,5 @@
 -- `printing::decision_line` meets its contract: the words of each decision.
+use native.Mathlib.Omega.{arith}
 use borrow.Author.Needs.{needs}
 use Rattle.printing.specs.Decide.{decisionLine}
 use Rattle.printing.specs.LaidLaws.{wrote-none, wrote-length}
@@ -12,7 +13,7 @@ slice-aggregate-words : tie.Need-slice-aggregate-words
 slice-aggregate-words c = search needs
 
 words-requires : tie.Need-words-requires
-words-requires c κs = search needs
+words-requires c κs = omega arith
 
 enum-told-2 : tie.Need-enum-told-2
 enum-told-2 c = search needs
@@ -21,7 +22,7 @@ slice-aggregate-words-2 : tie.Need-slice-aggregate-words-2
 slice-aggregate-words-2 c = search needs
 
 words-requires-2 : tie.Need-words-requires-2
-words-requires-2 c κs = search needs
+words-requires-2 c κs = omega arith
 
 enum-told-3 : tie.Need-enum-told-3
 enum-told-3 c = search needs
@@ -30,7 +31,7 @@ slice-aggregate-words-3 : tie.Need-slice-aggregate-words-3
 slice-aggregate-words-3 c = search needs
 
 words-requires-3 : tie.Need-words-requires-3
-words-requires-3 c κs = search needs
+words-requires-3 c κs = omega arith
 
 enum-told-4 : tie.Need-enum-told-4
 enum-told-4 c = search needs

@@ -10,10 +10,10 @@ slice-aggregate-words : tie.Need-slice-aggregate-words
 slice-aggregate-words c = search needs
 
 words-requires : tie.Need-words-requires
-words-requires c κs = search needs
+words-requires c κs = omega arith
 
 pair-line-requires : tie.Need-pair-line-requires
-pair-line-requires c κs = search needs
+pair-line-requires c κs = omega arith
 
 returns : tie.Need-returns
 unfolding refusedLine

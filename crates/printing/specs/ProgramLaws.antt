@@ -1,0 +1,50 @@
+-- What the writers lay for a call is what the program prints for it, and how many bytes that takes.
+use mathlib.Core.Path.{_≡_, refl, sym, ap, _∙_}
+use mathlib.Core.List.{List}
+use Prim.Native.Nat.{ℕ, _≤_}
+use native.Mathlib.Omega.{arith}
+use lib.ListN.{length}
+use Rattle.meaning.specs.Judged.{Judged, good, bad}
+use Rattle.meaning.specs.AcceptLaws.{fit-image}
+use Rattle.meaning.specs.SheetLaws.{fit-sheet}
+use Rattle.meaning.specs.Sheet.{Query, sheetOf}
+use Rattle.meaning.specs.Call.{call}
+use Rattle.meaning.specs.CallLaws.{CallFits, done-exactly}
+use Rattle.printing.specs.Text.{refusedLine, sheetLines}
+use Rattle.printing.specs.TextLaws.{refused-length}
+use Rattle.printing.specs.Laid.{Wrote}
+use Rattle.printing.specs.Printable.{Printable, Printed}
+use Rattle.printing.specs.PrintableLaws.{call-printable, lines-fit}
+use Rattle.printing.specs.Program.{queriesOf, saidLines, callLines}
+
+module _ (image sheet row : List ℕ) where
+  -- a call that is refused
+  pub refused-lines : {number place : ℕ} → call image sheet row .said ≡ bad number place → refusedLine number place ≡ callLines image sheet row
+  unfolding callLines saidLines
+  refused-lines e = rw e
+
+  -- a call that is done
+  module _ {count : ℕ} (e : call image sheet row .said ≡ good count) where
+    abbrev fits : CallFits image sheet row count
+    fits = done-exactly image sheet row count .0 e
+
+    accepted : sheetOf sheet (length (fits .index .terms)) ≡ good (fits .queries)
+    accepted = fit-sheet sheet (length (fits .index .terms)) (fits .queries) (fits .sheet-fits)
+
+    done-lines : sheetLines (call image sheet row .row) 0 (fits .queries) ≡ callLines image sheet row
+    unfolding callLines saidLines queriesOf
+    done-lines = rw (e, fit-image image (fits .index) (fits .image-fits), accepted)
+
+    pub done-printed : {out after : List ℕ} {next : ℕ} → Printed sheet (call image sheet row .row) out after next → Wrote 0 (callLines image sheet row) out after next
+    done-printed p = rw (← done-lines) (p (length (fits .index .terms)) (fits .queries) accepted)
+
+    done-fit : length (callLines image sheet row) ≤ 176064
+    done-fit = rw (← done-lines) (lines-fit (call-printable image sheet row count e) (length (fits .index .terms)) (fits .queries) accepted)
+
+  -- a buffer of 176,064 bytes has room for what is printed for any call
+  pub call-lines-fit : length (callLines image sheet row) ≤ 176064
+  call-lines-fit = by-said (call image sheet row .said) refl
+    where
+      by-said : (m : Judged ℕ) → call image sheet row .said ≡ m → length (callLines image sheet row) ≤ 176064
+      by-said (bad n p) e = rw (← refused-lines e) (omega (arith, refused-length n p))
+      by-said (good count) e = done-fit e
