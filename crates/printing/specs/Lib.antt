@@ -1,0 +1,14 @@
+pub mod Text
+pub mod Laid
+pub mod Printable
+pub mod Decide
+pub mod Numbers
+pub mod Program
+pub mod TextLaws
+pub mod LaidLaws
+pub mod DecideLaws
+pub mod NumbersLaws
+pub mod PrintableLaws
+pub mod ProgramLaws
+pub mod OnlyLaws
+pub mod Examples
