@@ -14,7 +14,7 @@ use Rattle.meaning.specs.Cost.{ceiling, P, last, aside, noMention}
 use Rattle.meaning.specs.ScoreLaws.{Capped, score-none, score-split}
 
 module _ (f : ℕ → Bool) where
-  last-le : (n : ℕ) → last f n ≤ n
+  pub last-le : (n : ℕ) → last f n ≤ n
   unfolding last
   last-le zero = omega arith
   last-le (suc n) = by-test (f (suc n)) (λ e. rw (e, last) (omega arith)) (λ e. rw (e, last) (omega (arith, last-le n)))

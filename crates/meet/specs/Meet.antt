@@ -2,9 +2,9 @@
 use Prim.Native.Nat.{ℕ, _+_, _*_, _-_, _≤_, _<_}
 use mathlib.Core.Path.{_≡_}
 use mathlib.Core.Bool.{cond}
-use mathlib.Core.List.{List}
+use mathlib.Core.List.{List, _++_}
 use lib.Dec.{eqb}
-use lib.ListN.{getD}
+use lib.ListN.{getD, take, drop}
 use Rattle.meaning.specs.Image.{indexOf}
 use Rattle.meaning.specs.Score as sc
 use Rattle.runs.specs.Run.{Run, runFrom}
@@ -14,10 +14,15 @@ use Rattle.mentions.specs.Mentions.{none}
 use Rattle.walk.specs.Stand.{Lags}
 use Rattle.walk.specs.Walk.{meantOf}
 use Rattle.walk.specs.declared.Visit.{Visit}
+use Rattle.meet.specs.Sorted.{sortedBy}
 
 -- the postings that a mention has left, by which the mentions are put in order: the current one, and those after it in its block and list
 abbrev pub postingsLeft : Mention → ℕ
 postingsLeft m = cond (eqb (m .cursor .past) 4294967295) 0 (m .cursor .rest + m .cursor .left + 1)
+
+-- the first q in the order of the postings left, fewest first, ties by place; the rest as they stood
+abbrev pub led : ℕ → List Mention → List Mention
+led q ms = sortedBy postingsLeft (take q ms) ++ drop q ms
 
 -- what the walk may start from: at document past - 1, which no cursor has passed, with at most 16 scored for each document before it
 pub record Meets (s : List ℕ) (ms : List Mention) (q past count : ℕ) : Type 0 where
@@ -34,7 +39,7 @@ meetBy s os bar q budget past count =
     runFrom (meetAt os) bar q budget (past - 1) count (indexOf s .docs - (past - 1))
 
 -- where it leaves the mentions when a document enters: the walk may start anew from the document after that one, with the same mentions
-pub record Leaves (s : List ℕ) (ms : List Mention) (q : ℕ) (r : Visit) : Type 0 where
+pub record Leaves (s : List ℕ) (os : List sc.Mention) (q : ℕ) (r : Visit) : Type 0 where
   pub next : r .next ≡ r .past + 1
   pub meets : Meets s (r .ms) q (r .next) (r .count)
-  pub means : meantOf s q (r .ms) ≡ meantOf s q ms
+  pub means : meantOf s q (r .ms) ≡ os

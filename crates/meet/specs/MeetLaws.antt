@@ -1,7 +1,7 @@
--- Laws of a document that every list holds and of one that some list lacks, and of the mentions that an array means.
-use mathlib.Core.Path.{_≡_, refl}
+-- Laws of a document that every list holds and of one that some list lacks.
+use mathlib.Core.Path.{_≡_}
 use mathlib.Core.List.{List, [], _∷_}
-use Prim.Native.Nat.{ℕ, zero, suc, _≤_, _<_}
+use Prim.Native.Nat.{ℕ, zero, suc, _<_}
 use native.Mathlib.Omega.{arith}
 use lib.ListN.{length, getD}
 use borrow.Author.Tests.{eq-eqb, ne-eqb}
@@ -10,8 +10,6 @@ use Rattle.meaning.specs.Cost.{noMention}
 use Rattle.meaning.specs.ScoreLaws.{holders-le}
 use Rattle.runs.specs.AllVisits.{meetAt}
 use Rattle.mentions.specs.declared.Mention.{Mention}
-use Rattle.mentions.specs.Mentions.{none, meant}
-use Rattle.walk.specs.Walk.{meantOf}
 
 module _ (os : List sc.Mention) (d : ℕ) where
   -- "Mode 2 visits every matching document at cost q"
@@ -30,10 +28,3 @@ unfolding sc.holders
 lacks [] d x h e = absurd (omega arith)
 lacks (m ∷ os) d zero h e = omega (arith, holders-le d os)
 lacks (m ∷ os) d (suc x) h e = omega (arith, lacks os d x (omega arith) e, holders-le d (m ∷ []))
-
--- the mention that the record at x stands for
-pub meant-at : (s : List ℕ) (q : ℕ) (ms : List Mention) (x : ℕ) → x < q → q ≤ length ms → meant s (getD ms x none) ≡ getD (meantOf s q ms) x noMention
-meant-at s zero ms x h le = absurd (omega arith)
-meant-at s (suc q) [] x h le = absurd (omega arith)
-meant-at s (suc q) (m ∷ ms) zero h le = refl
-meant-at s (suc q) (m ∷ ms) (suc x) h le = meant-at s q ms x (omega arith) (omega arith)

@@ -2,25 +2,28 @@
 // and the others are sought past whole blocks by their heads. The array goes in by value and comes back with the visit.
 use mentions::Mention;
 use runs::Turn;
-use walk::Visit;
 use walk::DONE;
+use walk::Visit;
 ghost use mathlib.Core.Path.{_≡_};
-ghost use mathlib.Core.List.{_++_};
-ghost use Prim.Native.Nat.{ℕ, _+_, _-_, _≤_, _<_};
-ghost use lib.ListN.{take, drop, getD};
+ghost use Prim.Native.Nat.{_≤_, _<_};
+ghost use lib.ListN.{getD};
 ghost use Rattle.meaning.specs.Image.{indexOf};
 ghost use Rattle.runs.specs.declared.Turn.the-variants.{Entered};
 ghost use Rattle.mentions.specs.Mentions.{none};
 ghost use Rattle.walk.specs.Walk.{meantOf, runOf};
-ghost use Rattle.meet.specs.Sorted.{sortedBy, settledIn};
-ghost use Rattle.meet.specs.Meet.{postingsLeft, Meets, meetBy, Leaves};
+ghost use Rattle.meet.specs.Sorted.{settledIn};
+ghost use Rattle.meet.specs.Meet.{postingsLeft, led, Meets, meetBy, Leaves};
 
 // The postings that a mention has left, the current one among them.
 fn postings_left(m: Mention) -> u64
     ensures { λ r. ⌜ r ≡ postingsLeft m ⌝ }
 {
     let c = m.cursor;
-    if c.past == DONE { 0 } else { (c.rest as u64) + (c.left as u64) + 1 }
+    if c.past == DONE {
+        0
+    } else {
+        (c.rest as u64) + (c.left as u64) + 1
+    }
 }
 
 // Mention i goes to its place among those after it, up to q, which are in order: before the first that has no fewer postings left.
@@ -47,7 +50,7 @@ fn settle(ms: [Mention; 16], i: usize, q: usize) -> [Mention; 16]
 // The first q mentions, the one with the fewest postings left first, ties by place in the query; the rest as they stood.
 pub fn lead(ms: [Mention; 16], q: usize) -> [Mention; 16]
     requires { ⌜ q ≤ 16 ⌝ }
-    ensures { λ r. ⌜ r ≡ sortedBy postingsLeft (take q ms) ++ drop q ms ⌝ }
+    ensures { λ r. ⌜ r ≡ led q ms ⌝ }
 {
     let mut out = ms;
     let mut i = q;
@@ -59,11 +62,34 @@ pub fn lead(ms: [Mention; 16], q: usize) -> [Mention; 16]
     out
 }
 
+// A walk that ends.
+fn ended(ms: [Mention; 16], turn: Turn, past: u32, sum: u32, count: u32, next: u32) -> Visit
+    ensures { λ r. ⌜ r ≡ record { ms = ms; turn = turn; past = past; sum = sum; count = count; next = next } ⌝ }
+{
+    Visit {
+        ms,
+        turn,
+        past,
+        sum,
+        count,
+        next,
+    }
+}
+
 // From document past - 1 on, up to the first that every list holds and that enters the table, the stop, or the end.
-pub fn meet(image: &[u8], ms: [Mention; 16], q: usize, past: u32, count: u32, bar: u32, budget: u32) -> Visit
+pub fn meet(
+    image: &[u8],
+    ms: [Mention; 16],
+    q: usize,
+    past: u32,
+    count: u32,
+    bar: u32,
+    budget: u32,
+) -> Visit
     requires { ⌜ Meets (now image) ms q past count ⌝ }
     ensures runs { λ r. ⌜ runOf (indexOf (now (image .entry)) .docs) r ≡ meetBy (now (image .entry)) (meantOf (now (image .entry)) q ms) bar q budget past count ⌝ }
-    ensures leaves { λ r. ⌜ (r .turn ≡ Entered → Leaves (now (image .entry)) ms q r) ⌝ }
+    ensures some { λ r. ⌜ 0 < r .past ⌝ }
+    ensures leaves { λ r. ⌜ (r .turn ≡ Entered → Leaves (now (image .entry)) (meantOf (now (image .entry)) q ms) q r) ⌝ }
 {
     let cost = q as u32;
     let mut ms = ms;
@@ -79,8 +105,8 @@ pub fn meet(image: &[u8], ms: [Mention; 16], q: usize, past: u32, count: u32, ba
                 ms[i] = m;
             }
             if m.cursor.past == past {
-                sum = sum + m.weight * m.cursor.impact;
-                i = i + 1;
+                sum += m.weight * m.cursor.impact;
+                i += 1;
             } else {
                 past = m.cursor.past;
                 sum = 0;
@@ -88,17 +114,17 @@ pub fn meet(image: &[u8], ms: [Mention; 16], q: usize, past: u32, count: u32, ba
             }
         } else {
             if (budget as u64) < (count as u64) + (cost as u64) {
-                return Visit { ms: ms, turn: Turn::Stopped, past: past, sum: 0, count: count, next: past };
+                return ended(ms, Turn::Stopped, past, 0, count, past);
             }
-            count = count + cost;
+            count += cost;
             let next = past + 1;
             if bar < sum {
-                return Visit { ms: ms, turn: Turn::Entered, past: past, sum: sum, count: count, next: next };
+                return ended(ms, Turn::Entered, past, sum, count, next);
             }
             past = next;
             sum = 0;
             i = 0;
         }
     }
-    Visit { ms: ms, turn: Turn::Finished, past: past, sum: 0, count: count, next: past }
+    ended(ms, Turn::Finished, past, 0, count, past)
 }

@@ -5,6 +5,7 @@ use Prim.Native.Nat.{ℕ, zero, suc, _+_, _-_, _≤_, _<_}
 use native.Mathlib.Omega.{arith}
 use lib.Dec.{ltb, eqb}
 use borrow.Author.Tests.{lt-ltb, le-ltb, eq-eqb, ne-eqb}
+use Rattle.lists.specs.Tests.{by-test}
 use Rattle.meaning.specs.Cost.{Tally}
 use Rattle.runs.specs.declared.Turn.the-variants.{Finished, Stopped, Entered}
 use Rattle.runs.specs.Run.{Run, runFrom}
@@ -42,3 +43,15 @@ module _ (v : ℕ → Tally) (bar q budget : ℕ) where
   pub run-end : (d count : ℕ) → runFrom v bar q budget d count 0 ≡ record { turn = Finished; doc = d; sum = 0; count = count }
   unfolding runFrom
   run-end d count = refl
+
+  -- a run ends no earlier than it starts
+  pub run-later : (n d count : ℕ) → d ≤ runFrom v bar q budget d count n .doc
+  unfolding runFrom
+  run-later zero d count = omega arith
+  run-later (suc n) d count =
+      by-test (eqb (v d .count) 0)
+      (λ e. rw e (omega (arith, run-later n (suc d) count)))
+      (λ e.
+      by-test (ltb budget (count + q))
+      (λ u. rw (e, u) (omega arith))
+      (λ u. by-test (ltb bar (v d .sum)) (λ w. rw (e, u, w) (omega arith)) (λ w. rw (e, u, w) (omega (arith, run-later n (suc d) (count + v d .count))))))

@@ -1,11 +1,13 @@
 -- The loop of the look-ups: "from rank j down to 1: if the sum so far plus P(i) is at most the bar, the document is dropped; else the
 -- mention at rank i is looked up and scored if it holds the document".
-use mathlib.Core.Path.{_≡_, refl, sym, ap, subst, _∙_}
+use mathlib.Core.Path.{_≡_, refl, sym, _∙_}
 use mathlib.Core.List.{List}
-use Prim.Native.Nat.{ℕ, suc, _+_, _*_, _-_, _≤_, _<_}
+use Prim.Native.Nat.{ℕ, _+_, _*_, _-_, _≤_, _<_}
 use native.Mathlib.Omega.{arith}
 use lib.ListN.{length, getD, set, drop, length-set}
 use lib.Seq.{set-getD}
+use mir.Syntax.{w32}
+use mir.Val.{Fits}
 use Rattle.meaning.specs.Score as sc
 use Rattle.meaning.specs.Cost.{P, noMention, lookUps, visitAt}
 use Rattle.meaning.specs.PruneLaws.{look-end, look-drop, look-on, visited}
@@ -16,7 +18,7 @@ use Rattle.walk.specs.Stand.{Stands, Lags, Goes, Placed}
 use Rattle.walk.specs.Walk.{meantOf}
 use Rattle.walk.specs.StandLaws.{stands-later, goes-same}
 use Rattle.walk.specs.PlacedLaws.{placed-P, placed-looked}
-use Rattle.walk.proofs.Scoring.{Site, Scored, Scoring, scoring-meant, all-scored}
+use Rattle.walk.proofs.Scoring.{Site, Scored, Scoring, scored-fits, scoring-meant, all-scored}
 
 -- the loop's state: the look-ups go on from rank i as the written ones, with the postings scored before the document left out
 pub record Looking (s : List ℕ) (os : List sc.Mention) (pre : List ℕ) (bar j q past count : ℕ) (ms : List Mention) (t : Tally) (i : ℕ) : Type 0 where
@@ -61,15 +63,25 @@ pub record Visited (s : List ℕ) (os : List sc.Mention) (bar j q past count : �
   pub tally : visitAt os bar j (past - 1) ≡ record { sum = t .sum; count = t .count - count }
 
 module _ {s : List ℕ} {os : List sc.Mention} {pre : List ℕ} {bar j q past count : ℕ} {ms : List Mention} {t : Tally} {i : ℕ} (x : Looking s os pre bar j q past count ms t i) where
+  pub in-seventeen : i < 17
+  in-seventeen = omega (arith, x .low, x .site .rank, x .site .few)
+
   -- what is tested fits
-  pub test-fits : t .sum + getD pre i 0 ≤ 1040400
+  pub test-fits : Fits w32 (t .sum + getD pre i 0)
   test-fits =
       let p = placed-P (x .placed) i (omega (arith, x .low, x .site .rank, x .site .whole)) in
       omega (arith, x .sum-fits, x .low, x .site .rank, x .site .few, x .site .sums i (x .low))
 
   module _ (some : 0 < i) where
-    pub lags : Lags s (past - 1) (getD ms (i - 1) none)
+    pub in-sixteen : i - 1 < 16
+    in-sixteen = omega (arith, in-seventeen)
+
+    lags : Lags s (past - 1) (getD ms (i - 1) none)
     lags = x .placed .aside (i - 1) (omega (arith, x .low))
+
+    -- the mention can be looked up
+    pub look-seeks : (0 < past) × (past ≤ 16777216) × Lags s (past - 1) (getD ms (i - 1) none)
+    look-seeks = (x .site .some, omega (arith, x .site .most, x .site .docs), lags)
 
     -- the two ways of a look-up
     pub found-sought : {n m : Mention} {ns : List Mention} → Goes s (past - 1) (getD ms (i - 1) none) n → ns ≡ set ms (i - 1) n → m ≡ n → Found s past ms (i - 1) ns m
@@ -83,6 +95,11 @@ module _ {s : List ℕ} {os : List sc.Mention} {pre : List ℕ} {bar j q past co
           same = refl;
           stored = stored ∙ sym (set-getD ms (i - 1) none);
         })
+
+    -- and scored where its posting is the document's
+    pub look-scores : {m : Mention} {ns : List Mention} → Found s past ms (i - 1) ns m → m .cursor .past ≡ past →
+        (t .sum + m .weight * m .cursor .impact < 4294967296) × (t .count + 1 < 4294967296)
+    look-scores f e = scored-fits (x .site) (f .stands) (x .sum-fits) (x .count-fits) (omega (arith, x .site .few)) e
 
     -- its end, with the mention scored where it holds the document
     pub looking-on : {ns : List Mention} {m : Mention} {u : Tally} → bar < t .sum + getD pre i 0 → Found s past ms (i - 1) ns m → Scored s past m t u → Looking s os pre bar j q past count ns u (i - 1)
@@ -108,8 +125,8 @@ module _ {s : List ℕ} {os : List sc.Mention} {pre : List ℕ} {bar j q past co
   visited-by e = record { long = x .long; placed = x .placed; counted = x .counted; count-fits = omega (arith, x .count-fits); tally = sym (x .tally) ∙ e }
 
   -- the two ways out of the loop
-  pub visited-all : i ≡ 0 → Visited s os bar j q past count ms t
-  visited-all z = visited-by (rw z (look-end os bar (past - 1) _))
+  pub visited-all : i ≤ 0 → Visited s os bar j q past count ms t
+  visited-all le = let z : i ≡ 0 = omega arith in visited-by (rw z (look-end os bar (past - 1) _))
 
   pub visited-dropped : 0 < i → t .sum + getD pre i 0 ≤ bar → Visited s os bar j q past count ms t
   visited-dropped some low = visited-by (look-drop os bar (past - 1) i _ some (omega (arith, x .site .sums i (x .low))))

@@ -1,11 +1,13 @@
 -- The loop over the mentions above rank j: "All such postings are scored", and each mention that was scored has gone on.
 use mathlib.Core.Path.{_≡_, refl, sym, ap, subst, _∙_}
-use mathlib.Core.List.{List, [], _∷_}
+use mathlib.Core.List.{List, []}
 use Prim.Native.Nat.{ℕ, suc, _+_, _*_, _-_, _≤_, _<_, min}
 use native.Mathlib.Omega.{arith}
 use native.Mathlib.Numerals.{add-one}
 use lib.ListN.{length, getD, set, drop, length-set, drop-of-length-le}
 use lib.Seq.{drop-cons, set-getD, getD-set-same}
+use mir.Syntax.{w64}
+use mir.Val.{Fits}
 use Rattle.meaning.specs.Image.{indexOf}
 use Rattle.meaning.specs.Score as sc
 use Rattle.meaning.specs.Cost.{P, noMention}
@@ -32,6 +34,10 @@ pub record Site (s : List ℕ) (os : List sc.Mention) (pre : List ℕ) (j q past
   pub held : 0 < sc.holders (drop j os) (past - 1)
   pub spare : count ≤ 16 * (past - 1)
 
+-- the costs plus q
+pub costs-fit : {s : List ℕ} {os : List sc.Mention} {pre : List ℕ} {j q past count : ℕ} → Site s os pre j q past count → Fits w64 count × Fits w64 (count + q)
+costs-fit site = omega (arith, site .spare, site .most, site .docs, site .few)
+
 -- what mention m adds to a tally at document past - 1
 pub record Scored (s : List ℕ) (past : ℕ) (m : Mention) (t u : Tally) : Type 0 where
   pub sum : u .sum ≡ t .sum + sc.gain (meant s m) (past - 1)
@@ -43,9 +49,13 @@ module _ {s : List ℕ} {os : List sc.Mention} {pre : List ℕ} {j q past count 
   not-done : m .cursor .past ≡ past → m .cursor .past ≡ 4294967295 → ⊥
   not-done e z = omega (arith, site .docs, site .most)
 
-  -- its product fits
-  pub product-fits : m .cursor .past ≡ past → m .weight * m .cursor .impact ≤ 65025
+  product-fits : m .cursor .past ≡ past → m .weight * m .cursor .impact ≤ 65025
   product-fits e = stands-fits st (not-done e)
+
+  -- where n mentions at most were scored, it can be
+  pub scored-fits : {t : Tally} {n : ℕ} → t .sum ≤ 65025 * n → t .count ≤ count + n → n ≤ 16 → m .cursor .past ≡ past →
+      (t .sum + m .weight * m .cursor .impact < 4294967296) × (t .count + 1 < 4294967296)
+  scored-fits sum count few e = omega (arith, product-fits e, site .spare, site .most, site .docs)
 
   pub scored-hit : {t u : Tally} → m .cursor .past ≡ past → u ≡ record { sum = t .sum + m .weight * m .cursor .impact; count = t .count + 1 } → Scored s past m t u
   scored-hit e h =
@@ -134,8 +144,20 @@ module _ {s : List ℕ} {os : List sc.Mention} {pre : List ℕ} {j q past count 
     in-row : i < length os
     in-row = omega (arith, x .site .whole)
 
-    pub at-turn : Stands s (past - 1) (getD ms i none)
+    at-turn : Stands s (past - 1) (getD ms i none)
     at-turn = x .placed .here i (omega arith) in-row
+
+    pub in-sixteen : i < 16
+    in-sixteen = omega (arith, x .site .few)
+
+    -- where its posting is the document's it is scored, and goes on
+    pub turn-scores : getD ms i none .cursor .past ≡ past →
+        (t .sum + getD ms i none .weight * getD ms i none .cursor .impact < 4294967296) × (t .count + 1 < 4294967296)
+    turn-scores e = scored-fits (x .site) at-turn (x .sum-fits) (x .count-fits) (omega (arith, x .high, x .site .few)) e
+
+    pub turn-goes : getD ms i none .cursor .past ≡ past →
+        Stands s (getD ms i none .cursor .past - 1) (getD ms i none) × (getD ms i none .cursor .past ≡ 4294967295 → ⊥)
+    turn-goes e = (subst (λ (p : ℕ). Stands s (p - 1) (getD ms i none)) (sym e) at-turn, not-done (x .site) at-turn e)
 
     -- the two ways of a turn
     pub turned-hit : {n : Mention} {ns : List Mention} {u : Tally} → getD ms i none .cursor .past ≡ past → Goes s (getD ms i none .cursor .past) (getD ms i none) n → ns ≡ set ms i n →

@@ -1,6 +1,6 @@
 -- Where the mentions stand when the walk is at a document, and which document comes next. They serve "A document is visited if a mention
 -- above rank j holds it": the cursors of those mentions stand at their lists' first postings at or after it.
-use Prim.Native.Nat.{ℕ, zero, suc, _+_, _*_, _-_, _≤_, _<_, min}
+use Prim.Native.Nat.{ℕ, suc, _-_, _≤_, _<_, min}
 use mathlib.Core.Path.{_≡_}
 use mathlib.Core.Bool.{cond}
 use mathlib.Core.List.{List, [], _∷_}

@@ -1,16 +1,16 @@
 -- How a walk starts: with every mention at its first posting, and again where the walk before it left them, some more of them set aside.
-use mathlib.Core.Path.{_≡_, refl, sym, ap, subst, _∙_}
+use mathlib.Core.Path.{_≡_, refl, _∙_}
 use mathlib.Core.List.{List, [], _∷_, map}
-use Prim.Native.Nat.{ℕ, zero, suc, _+_, _*_, _-_, _≤_, _<_, min}
+use Prim.Native.Nat.{ℕ, zero, suc, _+_, _-_, _≤_, _<_}
 use native.Mathlib.Omega.{arith}
-use lib.ListN.{length, getD, take, drop, length-map, length-take, length-drop, List·getD-map}
+use lib.ListN.{length, getD, take, drop, length-map, length-take, length-drop}
 use lib.Seq.{getD-take, getD-drop}
 use Rattle.meaning.specs.Image.{indexOf}
 use Rattle.meaning.specs.Score as sc
 use Rattle.meaning.specs.Cost.{P, noMention}
 use Rattle.mentions.specs.declared.Mention.{Mention}
 use Rattle.mentions.specs.Mentions.{none, meant, leastOf}
-use Rattle.walk.specs.Stand.{nextAt, docOf, Stands, Placed}
+use Rattle.walk.specs.Stand.{nextAt, docOf, Stands}
 use Rattle.walk.specs.Walk.{meantOf, Starts, Leaves}
 use Rattle.walk.specs.NextLaws.{Rises, next-doc}
 use Rattle.walk.specs.StandLaws.{stands-past}
@@ -21,7 +21,7 @@ use Rattle.walk.specs.declared.Visit.{Visit}
 meant-length : (s : List ℕ) (q : ℕ) (ms : List Mention) → q ≤ length ms → length (meantOf s q ms) ≡ q
 meant-length s q ms le = simp (length-map, length-take) (omega arith)
 
-meant-at : (s : List ℕ) (q : ℕ) (ms : List Mention) (x : ℕ) → x < length (meantOf s q ms) → meant s (getD ms x none) ≡ getD (meantOf s q ms) x noMention
+pub meant-at : (s : List ℕ) (q : ℕ) (ms : List Mention) (x : ℕ) → x < length (meantOf s q ms) → meant s (getD ms x none) ≡ getD (meantOf s q ms) x noMention
 meant-at s zero ms x h = absurd (omega arith)
 meant-at s (suc q) [] x h = absurd (omega arith)
 meant-at s (suc q) (m ∷ ms) zero h = refl
@@ -46,31 +46,7 @@ least-next {s} {d} q k ms le st =
     let lt : k + x < q = omega (arith, length-drop k (take q ms), length-take q ms) in
     rw (getD-drop k (take q ms) x none, getD-take q ms (k + x) none lt) (st (k + x) (omega arith) lt)))
 
--- the first walk: no mention is set aside, and none has moved
-pub starts-first : {s : List ℕ} {ms : List Mention} {pre : List ℕ} {q past : ℕ} → q ≤ 16 → length ms ≡ 16 → indexOf s .docs < 16777216 →
-    ((x : ℕ) → x < q → Stands s 0 (getD ms x none)) → getD pre 0 0 ≡ 0 → past ≡ leastOf (take q ms) → Starts s ms pre 0 q past 0
-unfolding P
-starts-first {s} {ms} {pre} {q} {past} few long docs stand none-aside least =
-    let os = meantOf s q ms in
-    let whole = meant-length s q ms (omega arith) in
-    let e : past ≡ nextAt os 0 = least ∙ least-next q 0 ms (omega arith) (λ x g h. stand x h) in
-    let rises : Rises (indexOf s .docs) os = λ x h. rw (← (meant-at s q ms x h)) (stand x (omega arith) .fair .rises) in
-    let x = next-doc (indexOf s .docs) docs os rises 0 past (omega arith) e in
-    record {
-      few = few;
-      rank = omega arith;
-      placed = record {
-        means = meant-at s q ms;
-        aside = λ x h. absurd (omega arith);
-        gone = λ x g h. absurd (omega arith);
-        here = stand-next os ms (meant-at s q ms) 0 (docOf (indexOf s .docs) past) (λ x g h. stand x (omega arith)) (omega arith) (omega (arith, x .before));
-      };
-      next = x .stays;
-      sums = λ i h. let z : i ≡ 0 = omega arith in rw z none-aside;
-      spare = omega arith;
-    }
-
--- the next one: those up to rank k are set aside
+-- the next document, where the mentions up to rank k are set aside
 module _ {s : List ℕ} {os : List sc.Mention} {j : ℕ} {r : Visit} (l : Leaves s os j r) {q : ℕ} (whole : length os ≡ q) (few : q ≤ 16) (k : ℕ) (up : j ≤ k) where
   leaves-meant : meantOf s q (r .ms) ≡ os
   leaves-meant = placed-meant (l .placed) whole (omega (arith, l .long))
@@ -79,18 +55,3 @@ module _ {s : List ℕ} {os : List sc.Mention} {j : ℕ} {r : Visit} (l : Leaves
   leaves-least =
       let there : suc (r .past - 1) ≡ r .past = omega (arith, l .some) in
       rw (leaves-meant, there) at (least-next q k (r .ms) (omega (arith, l .long)) (λ x g h. l .placed .gone x (omega arith) (omega arith)))
-
-  pub starts-again : {pre : List ℕ} {past : ℕ} → k ≤ q → ((i : ℕ) → i ≤ k → getD pre i 0 ≡ P os i) → past ≡ nextAt (drop k os) (r .past) → Starts s (r .ms) pre k q past (r .count)
-  starts-again {pre} {past} rank sums e =
-      let there : suc (r .past - 1) ≡ r .past = omega (arith, l .some) in
-      let x = next-doc (indexOf s .docs) (l .docs) (drop k os) (placed-rises (l .placed) k) (r .past) past (l .most) e in
-      let D = docOf (indexOf s .docs) past in
-      let placed = placed-next (l .placed) k D up (omega arith) (omega (arith, x .later, l .some)) (rw there (omega (arith, x .before))) in
-      record {
-        few = few;
-        rank = rank;
-        placed = rw leaves-meant placed;
-        next = rw leaves-meant (x .stays);
-        sums = rw leaves-meant sums;
-        spare = omega (arith, x .later, l .spare);
-      }

@@ -1,5 +1,5 @@
 -- What a walk of modes 0 and 1 gives: the run of the documents that a mention above rank j holds.
-use Prim.Native.Nat.{ℕ, suc, _+_, _*_, _-_, _≤_, _<_}
+use Prim.Native.Nat.{ℕ, _*_, _-_, _≤_, _<_}
 use mathlib.Core.Path.{_≡_}
 use mathlib.Core.List.{List, map}
 use lib.ListN.{length, getD, take, drop}
@@ -7,7 +7,6 @@ use Rattle.meaning.specs.Image.{indexOf}
 use Rattle.meaning.specs.Score as sc
 use Rattle.meaning.specs.Cost.{P, visitAt}
 use Rattle.runs.specs.Run.{Run, runFrom}
-use Rattle.runs.specs.declared.Turn.the-variants.{Entered}
 use Rattle.mentions.specs.declared.Mention.{Mention}
 use Rattle.mentions.specs.Mentions.{meant}
 use Rattle.walk.specs.Stand.{nextAt, docOf, Placed}

@@ -1,10 +1,10 @@
-// The walk of modes 0 and 1: document at a time over the mentions' cursors, up to the first document that enters the table, the stop, or
-// the end. "All such postings are scored. Then, from rank j down to 1 .." The array goes in by value and comes back with the visit.
+// The walk of modes 0 and 1: document at a time over the mentions' cursors. "A document is visited if a mention above rank j holds it. All
+// such postings are scored. Then, from rank j down to 1 .." The array of mentions goes in by value and comes back with the visit.
 use mentions::Mention;
 use mentions::Tally;
 use runs::Turn;
 ghost use mathlib.Core.Path.{_≡_};
-ghost use Prim.Native.Nat.{ℕ, _+_, _*_, _-_, _≤_, _<_, min};
+ghost use Prim.Native.Nat.{_+_, _-_, _≤_, _<_, min};
 ghost use Rattle.runs.specs.declared.Turn.the-variants.{Entered};
 ghost use Rattle.meaning.specs.Image.{indexOf};
 ghost use Rattle.walk.specs.Stand.{Stands, Lags, Goes};
@@ -25,7 +25,7 @@ pub struct Visit {
 }
 
 // A walk that ends.
-fn ended(ms: [Mention; 16], turn: Turn, past: u32, sum: u32, count: u32, next: u32) -> Visit
+pub fn ended(ms: [Mention; 16], turn: Turn, past: u32, sum: u32, count: u32, next: u32) -> Visit
     ensures { λ r. ⌜ r ≡ record { ms = ms; turn = turn; past = past; sum = sum; count = count; next = next } ⌝ }
 {
     Visit {
@@ -72,6 +72,10 @@ fn lower(a: u32, b: u32) -> u32
     if b < a { b } else { a }
 }
 
+// The documents from past - 1 on that a mention above rank j holds, under one bar, with `count` postings scored before them: up to the
+// first that enters the table, the one before which the query stops, or the end. The stop rule is asked before anything of a document
+// is scored. "All such postings are scored", and those mentions go on; then the mentions below are looked up until the sum so far plus
+// P(i) is at most the bar. A dropped document's sum is at most the bar too, so that one test tells what enters.
 pub fn walk(
     image: &[u8],
     ms: [Mention; 16],
@@ -85,6 +89,7 @@ pub fn walk(
 ) -> Visit
     requires { ⌜ Starts (now image) ms (now pre) j q past count ⌝ }
     ensures runs { λ r. ⌜ runOf (indexOf (now (image .entry)) .docs) r ≡ runBy (now (image .entry)) (meantOf (now (image .entry)) q ms) bar j q budget past count ⌝ }
+    ensures some { λ r. ⌜ 0 < r .past ⌝ }
     ensures leaves { λ r. ⌜ (r .turn ≡ Entered → Leaves (now (image .entry)) (meantOf (now (image .entry)) q ms) j r) ⌝ }
 {
     let mut ms = ms;

@@ -2,16 +2,13 @@
 use Rattle.mentions.specs.Mentions.{none}
 use Rattle.meet.specs.Meet.{postingsLeft}
 use Rattle.meet.proofs.Settling.{sortedFrom, sort-none, sort-turn}
-use mathlib.Core.Path.{_≡_, refl, sym, ap, _∙_}
-use Prim.Native.Nat.{ℕ, suc, _+_, _-_, _*_, _≤_, _<_}
+use mathlib.Core.Path.{_≡_, _∙_}
+use Prim.Native.Nat.{_+_, _-_, _≤_}
 use native.Mathlib.Omega.{arith}
-use lib.ListN.{length, take, drop, getD, set}
+use lib.ListN.{length}
 use borrow.Author.Needs.{needs}
 use Rattle.meet.proofs.lead.Statement.{statement}
 use Rattle.meet.proofs.lead.Tie as tie
-use Rattle.meet.proofs.lead.Reads as reads
-use Rattle.meet.proofs.lead.Lts as lts
-use Rattle.meet.proofs.settle.Reads as settle-reads
 
 abbrev Inv-loop : tie.InvT-loop
 Inv-loop q out₀ i₀ out i = (i ≤ q) × (length out₀ ≡ 16) × (out ≡ sortedFrom postingsLeft none i q out₀)

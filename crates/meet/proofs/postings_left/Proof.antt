@@ -1,14 +1,8 @@
 -- `postings_left` meets its contract, by whether the list is at its end.
 use borrow.Author.Tests.{eq-eqb, ne-eqb}
-use mathlib.Core.Path.{_≡_, refl, sym, ap, _∙_}
-use Prim.Native.Nat.{ℕ, suc, _+_, _-_, _*_, _≤_, _<_}
-use native.Mathlib.Omega.{arith}
-use lib.ListN.{length, take, drop, getD, set}
 use borrow.Author.Needs.{needs}
 use Rattle.meet.proofs.postings_left.Statement.{statement}
 use Rattle.meet.proofs.postings_left.Tie as tie
-use Rattle.meet.proofs.postings_left.Reads as reads
-use Rattle.meet.proofs.postings_left.Lts as lts
 
 cast-result : tie.Need-cast-result
 cast-result c = search needs

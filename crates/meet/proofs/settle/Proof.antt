@@ -4,16 +4,13 @@ use Rattle.mentions.specs.Mentions.{none}
 use Rattle.meet.specs.Sorted.{settledIn}
 use Rattle.meet.specs.Meet.{postingsLeft}
 use Rattle.meet.proofs.Settling.{settle-on, settle-before, settle-last}
-use mathlib.Core.Path.{_≡_, refl, sym, ap, _∙_}
-use Prim.Native.Nat.{ℕ, suc, _+_, _-_, _*_, _≤_, _<_}
+use mathlib.Core.Path.{_≡_, refl, _∙_}
+use Prim.Native.Nat.{_-_, _<_}
 use native.Mathlib.Omega.{arith}
-use lib.ListN.{length, take, drop, getD, set}
+use lib.ListN.{length, getD}
 use borrow.Author.Needs.{needs}
 use Rattle.meet.proofs.settle.Statement.{statement}
 use Rattle.meet.proofs.settle.Tie as tie
-use Rattle.meet.proofs.settle.Reads as reads
-use Rattle.meet.proofs.settle.Lts as lts
-use Rattle.meet.proofs.postings_left.Reads as postings-left-reads
 
 abbrev Inv-loop : tie.InvT-loop
 Inv-loop i q out₀ hand own at₀ out at =

@@ -1,18 +1,22 @@
 -- `walk`: each turn of its three loops by the law of its way, and the array's mentions the same from loop to loop.
-use mathlib.Core.Path.{_≡_, refl, sym, ap, subst, _∙_}
+use mathlib.Core.Path.{_≡_, refl, ap, _∙_}
 use mathlib.Core.Logic.{⊎-elim}
-use Prim.Native.Nat.{ℕ, _+_, _-_, _*_, _≤_, _<_}
+use Prim.Native.Nat.{ℕ, _+_, _-_, _*_, _<_}
 use native.Mathlib.Omega.{arith}
-use lib.ListN.{length, drop, getD, length-map, length-take}
+use lib.ListN.{length, drop, length-map, length-take}
 use borrow.Author.Needs.{needs}
 use borrow.Author.Tests.{ltb-true, ltb-false}
+use borrow.Author.Count.{falls, falls-down}
+use mir.Syntax.{w64}
+use mir.Val.{Fits}
 use Rattle.meaning.specs.Image.{indexOf}
-use Rattle.mentions.specs.Mentions.{none}
-use Rattle.walk.specs.Stand.{docOf, nextAt, Stands}
+use Rattle.walk.specs.Stand.{docOf, nextAt}
 use Rattle.walk.specs.Walk.{meantOf, runBy}
-use Rattle.walk.proofs.Scoring.{Scoring, product-fits, scored-hit, scored-miss, at-turn, turned-hit, turned-miss, scoring-on, scoring-meant, all-scored}
-use Rattle.walk.proofs.Looking.{Looking, Found, Visited, looking-first, test-fits, lags, found-sought, found-here, looking-on, visited-all, visited-dropped}
+use Rattle.walk.proofs.Scoring.{Scoring, costs-fit, in-sixteen, turn-scores, turn-goes, scored-hit, scored-miss, turned-hit, turned-miss, scoring-on, scoring-meant, all-scored}
+use Rattle.walk.proofs.Looking.{Looking, Found, Visited, looking-first, in-seventeen, test-fits, look-seeks, look-scores, found-sought, found-here, looking-on, visited-all, visited-dropped}
+use Rattle.walk.proofs.Looking as look
 use Rattle.walk.proofs.Walking.{Walking, visiting, visiting-meant, scoring-starts, finished, stopped, entered, going-falls, going-on}
+use Rattle.walk.specs.declared.Visit.{Visit}
 use Rattle.walk.proofs.walk.Statement.{statement}
 use Rattle.walk.proofs.walk.Tie as tie
 
@@ -38,13 +42,18 @@ abbrev μ-loop : tie.MeasureT-loop
 μ-loop image pre j q past count bar budget ms₀ past₀ count₀ ms past' count' =
     indexOf image .docs - docOf (indexOf image .docs) past'
 
--- the mention at its turn, where its posting is the document's
-at-scored : (c : tie.Then2 Inv-loop2 μ-loop2 Inv-loop3 μ-loop3 Inv-loop μ-loop) →
-    let m = getD (c .before .before .before .before .loop2 .ms) (c .before .before .before .before .loop2 .i) none in
-    Stands (c .before .before .before .before .before .before .before .before .before .args .image .now) (m .cursor .past - 1) m × (m .cursor .past ≡ 4294967295 → ⊥)
-at-scored c =
-    let x = c .before .before .before .before .loop2 .inv in
-    (rw (c .if2 .taken) (at-turn x (c .before .before .before .loop2-test .taken)), λ z. omega (arith, x .site .most, x .site .docs))
+-- small numbers
+slot-fits : (i : ℕ) → i < 16 → Fits w64 (i * 40)
+slot-fits i h = omega arith
+
+place-fits : (i : ℕ) → i < 17 → Fits w64 (i * 4)
+place-fits i h = omega arith
+
+step-fits : (i : ℕ) → i < 16 → Fits w64 (i + 1)
+step-fits i h = omega arith
+
+not-zero : (n : ℕ) → (n ≡ 0 → ⊥) → 0 < n
+not-zero n ne = omega arith
 
 -- the mention at rank i, looked up
 at-found : (c : tie.Joined5 Inv-loop2 μ-loop2 Inv-loop3 μ-loop3 Inv-loop μ-loop) →
@@ -67,7 +76,7 @@ at-end c =
     let y = c .before .before .before .loop2 .inv in
     let e = visiting-meant (visiting (c .before .before .before .before .before .before .loop .inv) (c .before .before .before .before .before .loop-test .taken)) in (
       rw (scoring-meant y ∙ e) at
-          (⊎-elim (λ w. visited-dropped x (w .0 .taken) (ltb-false _ _ (w .3 .left))) (λ w. visited-all x (omega (arith, w .left))) (c .loop3-test .came)),
+          (⊎-elim (λ w. visited-dropped x (w .0 .taken) (ltb-false _ _ (w .3 .left))) (λ w. visited-all x (w .left)) (c .loop3-test .came)),
       rw e at (all-scored y (c .before .before .loop2-test .left) .next),
     )
 
@@ -88,70 +97,72 @@ loop-holds c =
     }
 
 cast-if1 : tie.Need-cast-if1 Inv-loop2 μ-loop2 Inv-loop3 μ-loop3 Inv-loop μ-loop
-cast-if1 c =
-    let v = visiting (c .before .loop .inv) (c .loop-test .taken) .site in
-    omega (arith, v .spare, v .most, v .docs, v .few)
+cast-if1 c = costs-fit (visiting (c .before .loop .inv) (c .loop-test .taken) .site) .0
 
 add-if1 : tie.Need-add-if1 Inv-loop2 μ-loop2 Inv-loop3 μ-loop3 Inv-loop μ-loop
 add-if1 c =
-    let v = visiting (c .before .loop .inv) (c .loop-test .taken) .site in
-    omega (arith, v .spare, v .most, v .docs, v .few)
+    let fits = costs-fit (visiting (c .before .loop .inv) (c .loop-test .taken) .site) .1 in
+    omega arith
 
 ended-requires : tie.Need-ended-requires Inv-loop2 μ-loop2 Inv-loop3 μ-loop3 Inv-loop μ-loop
-ended-requires c κs = search needs
+ended-requires c κs = tt
 
 returns : tie.Need-returns Inv-loop2 μ-loop2 Inv-loop3 μ-loop3 Inv-loop μ-loop
 returns c =
-    stopped (visiting (c .before .before .before .loop .inv) (c .before .before .loop-test .taken)) (c .before .if1 .taken) (c .ended .ensures)
+    let v = visiting (c .before .before .before .loop .inv) (c .before .before .loop-test .taken) in
+    let x = stopped v (c .before .if1 .taken) (c .ended .ensures) in
+    (x .0, (omega (arith, v .site .some, ap (λ (r : Visit). r .past) (c .ended .ensures)), x .1))
 
 loop2-holds : tie.Need-loop2-holds Inv-loop2 μ-loop2 Inv-loop3 μ-loop3 Inv-loop μ-loop
 loop2-holds c =
     scoring-starts (visiting (c .before .before .loop .inv) (c .before .loop-test .taken))
 
 mul-m : tie.Need-mul-m Inv-loop2 μ-loop2 Inv-loop3 μ-loop3 Inv-loop μ-loop
-mul-m c = search needs
+mul-m c = slot-fits _ (in-sixteen (c .before .loop2 .inv) (c .loop2-test .taken))
 
 array-copy-out-m : tie.Need-array-copy-out-m Inv-loop2 μ-loop2 Inv-loop3 μ-loop3 Inv-loop μ-loop
-array-copy-out-m c = search needs
+array-copy-out-m c = in-sixteen (c .before .loop2 .inv) (c .loop2-test .taken)
 
 scored-requires : tie.Need-scored-requires Inv-loop2 μ-loop2 Inv-loop3 μ-loop3 Inv-loop μ-loop
 scored-requires c κs =
-    let x = c .before .before .before .before .loop2 .inv in
-    let fits = product-fits (x .site) (at-turn x (c .before .before .before .loop2-test .taken)) (c .if2 .taken) in
-    omega (arith, x .sum-fits, x .count-fits, x .high, x .site .few, x .site .most, x .site .docs, x .site .spare)
+    turn-scores (c .before .before .before .before .loop2 .inv) (c .before .before .before .loop2-test .taken) (c .if2 .taken)
 
 turned-requires : tie.Need-turned-requires Inv-loop2 μ-loop2 Inv-loop3 μ-loop3 Inv-loop μ-loop
-turned-requires c κs = let x = at-scored (c .before .before .before) in (x .0, x .1, c .if3 .taken)
+turned-requires c κs =
+    let x = turn-goes (c .before .before .before .before .before .before .before .loop2 .inv) (c .before .before .before .before .before .before .loop2-test .taken) (c .before .before .before .if2 .taken) in
+    (x .0, x .1, c .if3 .taken)
 
 mul-ms : tie.Need-mul-ms Inv-loop2 μ-loop2 Inv-loop3 μ-loop3 Inv-loop μ-loop
-mul-ms c = search needs
+mul-ms c = slot-fits _ (in-sixteen (c .before .before .before .before .before .before .before .before .loop2 .inv) (c .before .before .before .before .before .before .before .loop2-test .taken))
 
 array-set-from-ms : tie.Need-array-set-from-ms Inv-loop2 μ-loop2 Inv-loop3 μ-loop3 Inv-loop μ-loop
-array-set-from-ms c = search needs
+array-set-from-ms c = in-sixteen (c .before .before .before .before .before .before .before .before .loop2 .inv) (c .before .before .before .before .before .before .before .loop2-test .taken)
 
 took-requires : tie.Need-took-requires Inv-loop2 μ-loop2 Inv-loop3 μ-loop3 Inv-loop μ-loop
-took-requires c κs = let x = at-scored (c .before .before .before) in (x .0, x .1, omega (arith, c .if3 .left))
+took-requires c κs =
+    let x = turn-goes (c .before .before .before .before .before .before .before .loop2 .inv) (c .before .before .before .before .before .before .loop2-test .taken) (c .before .before .before .if2 .taken) in
+    (x .0, x .1, not-zero _ (c .if3 .left))
 
 mul-ms-2 : tie.Need-mul-ms-2 Inv-loop2 μ-loop2 Inv-loop3 μ-loop3 Inv-loop μ-loop
-mul-ms-2 c = search needs
+mul-ms-2 c = slot-fits _ (in-sixteen (c .before .before .before .before .before .before .before .before .loop2 .inv) (c .before .before .before .before .before .before .before .loop2-test .taken))
 
 array-set-from-ms-2 : tie.Need-array-set-from-ms-2 Inv-loop2 μ-loop2 Inv-loop3 μ-loop3 Inv-loop μ-loop
-array-set-from-ms-2 c = search needs
+array-set-from-ms-2 c = in-sixteen (c .before .before .before .before .before .before .before .before .loop2 .inv) (c .before .before .before .before .before .before .before .loop2-test .taken)
 
 mul-lower : tie.Need-mul-lower Inv-loop2 μ-loop2 Inv-loop3 μ-loop3 Inv-loop μ-loop
-mul-lower c = search needs
+mul-lower c = slot-fits _ (in-sixteen (c .before .before .before .before .loop2 .inv) (c .before .before .before .loop2-test .taken))
 
 element-copy-out-lower : tie.Need-element-copy-out-lower Inv-loop2 μ-loop2 Inv-loop3 μ-loop3 Inv-loop μ-loop
-element-copy-out-lower c = search needs
+element-copy-out-lower c = in-sixteen (c .before .before .before .before .loop2 .inv) (c .before .before .before .loop2-test .taken)
 
 lower-requires : tie.Need-lower-requires Inv-loop2 μ-loop2 Inv-loop3 μ-loop3 Inv-loop μ-loop
-lower-requires c κs = search needs
+lower-requires c κs = tt
 
 add-i : tie.Need-add-i Inv-loop2 μ-loop2 Inv-loop3 μ-loop3 Inv-loop μ-loop
-add-i c = search needs
+add-i c = step-fits _ (in-sixteen (c .before .before .before .before .before .loop2 .inv) (c .before .before .before .before .loop2-test .taken))
 
 loop2-less : tie.Need-loop2-less Inv-loop2 μ-loop2 Inv-loop3 μ-loop3 Inv-loop μ-loop
-loop2-less c = search needs
+loop2-less c = falls _ _ (c .before .before .before .before .loop2-test .taken)
 
 loop2-again : tie.Need-loop2-again Inv-loop2 μ-loop2 Inv-loop3 μ-loop3 Inv-loop μ-loop
 loop2-again c =
@@ -171,43 +182,40 @@ loop3-holds c =
     looking-first (c .before .loop2 .inv) (c .loop2-test .left)
 
 mul-if4 : tie.Need-mul-if4 Inv-loop2 μ-loop2 Inv-loop3 μ-loop3 Inv-loop μ-loop
-mul-if4 c = search needs
+mul-if4 c = place-fits _ (in-seventeen (c .before .loop3 .inv))
 
 element-copy-out-if4 : tie.Need-element-copy-out-if4 Inv-loop2 μ-loop2 Inv-loop3 μ-loop3 Inv-loop μ-loop
-element-copy-out-if4 c = search needs
+element-copy-out-if4 c = in-seventeen (c .before .loop3 .inv)
 
 add-if4 : tie.Need-add-if4 Inv-loop2 μ-loop2 Inv-loop3 μ-loop3 Inv-loop μ-loop
 add-if4 c =
-    omega (arith, test-fits (c .before .before .before .loop3 .inv))
+    test-fits (c .before .before .before .loop3 .inv)
 
 sub-i : tie.Need-sub-i Inv-loop2 μ-loop2 Inv-loop3 μ-loop3 Inv-loop μ-loop
-sub-i c = search needs
+sub-i c = c .before .before .before .loop3-test .taken
 
 mul-found : tie.Need-mul-found Inv-loop2 μ-loop2 Inv-loop3 μ-loop3 Inv-loop μ-loop
-mul-found c = search needs
+mul-found c = slot-fits _ (look.in-sixteen (c .before .before .before .before .loop3 .inv) (c .before .before .before .loop3-test .taken))
 
 array-copy-out-found : tie.Need-array-copy-out-found Inv-loop2 μ-loop2 Inv-loop3 μ-loop3 Inv-loop μ-loop
-array-copy-out-found c = search needs
+array-copy-out-found c = look.in-sixteen (c .before .before .before .before .loop3 .inv) (c .before .before .before .loop3-test .taken)
 
 sought-requires : tie.Need-sought-requires Inv-loop2 μ-loop2 Inv-loop3 μ-loop3 Inv-loop μ-loop
 sought-requires c κs =
-    let x = c .before .before .before .before .before .before .before .loop3 .inv in
-    (x .site .some, omega (arith, x .site .most, x .site .docs), lags x (c .before .before .before .before .before .before .loop3-test .taken))
+    look-seeks (c .before .before .before .before .before .before .before .loop3 .inv) (c .before .before .before .before .before .before .loop3-test .taken)
 
 mul-ms-3 : tie.Need-mul-ms-3 Inv-loop2 μ-loop2 Inv-loop3 μ-loop3 Inv-loop μ-loop
-mul-ms-3 c = search needs
+mul-ms-3 c = slot-fits _ (look.in-sixteen (c .before .before .before .before .before .before .before .before .loop3 .inv) (c .before .before .before .before .before .before .before .loop3-test .taken))
 
 array-set-from-ms-3 : tie.Need-array-set-from-ms-3 Inv-loop2 μ-loop2 Inv-loop3 μ-loop3 Inv-loop μ-loop
-array-set-from-ms-3 c = search needs
+array-set-from-ms-3 c = look.in-sixteen (c .before .before .before .before .before .before .before .before .loop3 .inv) (c .before .before .before .before .before .before .before .loop3-test .taken)
 
 scored-requires-2 : tie.Need-scored-requires-2 Inv-loop2 μ-loop2 Inv-loop3 μ-loop3 Inv-loop μ-loop
 scored-requires-2 c κs =
-    let x = c .before .before .before .before .before .before .before .before .before .loop3 .inv in
-    let fits = product-fits (x .site) (at-found (c .before .before) .stands) (c .if6 .taken) in
-    omega (arith, x .sum-fits, x .count-fits, x .site .few, x .site .most, x .site .docs, x .site .spare)
+    look-scores (c .before .before .before .before .before .before .before .before .before .loop3 .inv) (c .before .before .before .before .before .before .before .before .loop3-test .taken) (at-found (c .before .before)) (c .if6 .taken)
 
 loop3-less : tie.Need-loop3-less Inv-loop2 μ-loop2 Inv-loop3 μ-loop3 Inv-loop μ-loop
-loop3-less c = search needs
+loop3-less c = falls-down _ (c .before .before .before .before .before .before .before .before .before .loop3-test .taken)
 
 loop3-again : tie.Need-loop3-again Inv-loop2 μ-loop2 Inv-loop3 μ-loop3 Inv-loop μ-loop
 loop3-again c =
@@ -216,7 +224,7 @@ loop3-again c =
     looking-on x (c .before .before .before .before .before .before .before .before .before .loop3-test .taken) (ltb-true _ _ (c .before .before .before .before .before .before .if4 .taken)) f (scored-hit (x .site) (f .stands) (c .before .if6 .taken) (c .scored2 .ensures))
 
 loop3-less-2 : tie.Need-loop3-less-2 Inv-loop2 μ-loop2 Inv-loop3 μ-loop3 Inv-loop μ-loop
-loop3-less-2 c = search needs
+loop3-less-2 c = falls-down _ (c .before .before .before .before .before .before .before .before .loop3-test .taken)
 
 loop3-again-2 : tie.Need-loop3-again-2 Inv-loop2 μ-loop2 Inv-loop3 μ-loop3 Inv-loop μ-loop
 loop3-again-2 c =
@@ -225,13 +233,14 @@ loop3-again-2 c =
     looking-on x (c .before .before .before .before .before .before .before .before .loop3-test .taken) (ltb-true _ _ (c .before .before .before .before .before .if4 .taken)) f (scored-miss (x .site) (f .stands) (c .if6 .left) refl)
 
 ended-requires-2 : tie.Need-ended-requires-2 Inv-loop2 μ-loop2 Inv-loop3 μ-loop3 Inv-loop μ-loop
-ended-requires-2 c κs = search needs
+ended-requires-2 c κs = tt
 
 returns-2 : tie.Need-returns-2 Inv-loop2 μ-loop2 Inv-loop3 μ-loop3 Inv-loop μ-loop
 returns-2 c =
     let v = visiting (c .before .before .before .before .before .before .before .before .before .loop .inv) (c .before .before .before .before .before .before .before .before .loop-test .taken) in
     let u = at-end (c .before .before .before) in
-    entered v (u .0) (c .before .before .before .before .before .before .before .if1 .left) (u .1) (c .before .if7 .taken) (c .ended2 .ensures)
+    let x = entered v (u .0) (c .before .before .before .before .before .before .before .if1 .left) (u .1) (c .before .if7 .taken) (c .ended2 .ensures) in
+    (x .0, (omega (arith, v .site .some, ap (λ (r : Visit). r .past) (c .ended2 .ensures)), x .1))
 
 loop-less : tie.Need-loop-less Inv-loop2 μ-loop2 Inv-loop3 μ-loop3 Inv-loop μ-loop
 loop-less c =
@@ -246,11 +255,12 @@ loop-again c =
     going-on v (u .0) (c .before .before .before .before .before .before .if1 .left) (u .1) (c .if7 .left)
 
 ended-requires-3 : tie.Need-ended-requires-3 Inv-loop2 μ-loop2 Inv-loop3 μ-loop3 Inv-loop μ-loop
-ended-requires-3 c κs = search needs
+ended-requires-3 c κs = tt
 
 returns-3 : tie.Need-returns-3 Inv-loop2 μ-loop2 Inv-loop3 μ-loop3 Inv-loop μ-loop
 returns-3 c =
-    finished (c .before .before .loop .inv) (c .before .loop-test .left) (c .ended3 .ensures)
+    let x = finished (c .before .before .loop .inv) (c .before .loop-test .left) (c .ended3 .ensures) in
+    (x .0, (omega (arith, c .before .loop-test .left, ap (λ (r : Visit). r .past) (c .ended3 .ensures)), x .1))
 
 pub walk-spec : {M : Type 1} → statement M
 walk-spec =

@@ -1,0 +1,37 @@
+-- What a query's walk is served with, and what it has found when it ends.
+use Prim.Native.Nat.{ℕ, _≤_, _<_}
+use mathlib.Core.Path.{_≡_}
+use mathlib.Core.Bool.{Bool, true, false}
+use mathlib.Core.List.{List}
+use lib.ListN.{length, getD}
+use Rattle.meaning.specs.declared.Mode.{Mode}
+use Rattle.meaning.specs.declared.Mode.the-variants.{Plain, Pruned}
+use Rattle.meaning.specs.Image.{indexOf}
+use Rattle.meaning.specs.Score as sc
+use Rattle.runs.specs.Found as runs
+use Rattle.ranking.specs.Rows.{rowsOf}
+use Rattle.mentions.specs.declared.Mention.{Mention}
+use Rattle.mentions.specs.Mentions.{none}
+use Rattle.walk.specs.Stand.{Stands}
+use Rattle.search.specs.declared.Found.{Found}
+
+-- the first q of the array stand at their lists' first postings; "k (1 to 64)", "the number of terms q (1 to 16)", N documents
+pub record Served (s : List ℕ) (ms : List Mention) (q k docs : ℕ) : Type 0 where
+  pub some : 0 < q
+  pub few : q ≤ 16
+  pub least : 0 < k
+  pub most : k ≤ 64
+  pub all : docs ≡ indexOf s .docs
+  pub small : docs < 16777216
+  pub stands : (x : ℕ) → x < q → Stands s 0 (getD ms x none)
+
+-- mode 0 sets nothing aside
+abbrev pub modeFor : Bool → Mode
+modeFor true = Pruned
+modeFor false = Plain
+
+-- the place, the postings scored and the rows are those of the mode's written rule
+pub record FoundBy (mode : Mode) (ms : List sc.Mention) (k budget N : ℕ) (r : Found) : Type 0 where
+  pub found : runs.Found mode ms k budget N (r .place) (r .scored) (rowsOf (r .table))
+  pub within : r .table .len ≤ k
+  pub size : r .table .len ≡ length (rowsOf (r .table))

@@ -1,0 +1,11 @@
+// One query of an accepted sheet over an accepted image: its mentions, the walk of its mode, and its stretch of the answer row.
+pub mod any;
+
+use ranking::Table;
+
+// What a query's walk has found when it ends: the table, the place, and the postings scored.
+pub struct Found {
+    pub table: Table,
+    pub place: u32,
+    pub scored: u32,
+}
