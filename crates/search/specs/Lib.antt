@@ -1,2 +1,5 @@
 pub mod Serve
 pub mod AnyLaws
+pub mod Gather
+pub mod GatherLaws
+pub mod WriteLaws

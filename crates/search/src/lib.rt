@@ -1,5 +1,7 @@
 // One query of an accepted sheet over an accepted image: its mentions, the walk of its mode, and its stretch of the answer row.
 pub mod any;
+pub mod gather;
+pub mod write;
 
 use ranking::Table;
 
