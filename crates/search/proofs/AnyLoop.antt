@@ -43,7 +43,7 @@ use Rattle.search.specs.AnyLaws.{Between, between-starts, between-ends, 
 use Rattle.walk.specs.PlacedLaws.{placed-meant, placed-rises}
 use Rattle.walk.specs.StartLaws.{least-next, meant-at, leaves-least}
 
-kth-none : (k : ℕ) → kth k [] ≡ 0
+pub kth-none : (k : ℕ) → kth k [] ≡ 0
 unfolding kth
 kth-none zero = refl
 kth-none (suc k) = refl

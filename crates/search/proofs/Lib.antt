@@ -1,1 +1,2 @@
 pub mod AnyLoop
+pub mod AllLoop
