@@ -3,3 +3,5 @@ pub mod AnyLaws
 pub mod Gather
 pub mod GatherLaws
 pub mod WriteLaws
+pub mod Asked
+pub mod AskedLaws

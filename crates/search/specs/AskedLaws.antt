@@ -1,0 +1,67 @@
+-- An asked query's pairs can be gathered, its walk is served with the mentions, and what the walk has found is the written answer.
+use mathlib.Core.Path.{_≡_, sym, ap, subst, _∙_}
+use mathlib.Core.List.{List, _∷_, map}
+use Prim.Native.Nat.{ℕ, _≤_, _<_}
+use native.Mathlib.Omega.{arith}
+use lib.ListN.{length}
+use Rattle.meaning.specs.declared.Mode.{Mode}
+use Rattle.meaning.specs.Image.{indexOf}
+use Rattle.meaning.specs.Score as sc
+use Rattle.meaning.specs.Score.{mentionOf, mentions}
+use Rattle.meaning.specs.Answer.{filled, answerOf, answer}
+use Rattle.meaning.specs.IndexLaws.{index-is, docs-small}
+use Rattle.ranking.specs.Rows.{rowsOf}
+use Rattle.runs.specs.Found.{found-answer}
+use Rattle.sheet.specs.declared.Record.{Record}
+use Rattle.sheet.specs.Record.{pairsFrom, recordOf}
+use Rattle.mentions.specs.declared.Mention.{Mention}
+use Rattle.walk.specs.Walk.{meantOf}
+use Rattle.search.specs.declared.Found.{Found}
+use Rattle.search.specs.Gather.{Pairs, Gathered}
+use Rattle.search.specs.GatherLaws.{gathered-meant}
+use Rattle.search.specs.Serve.{Served, FoundBy}
+use Rattle.search.specs.Asked.{Asked}
+
+-- the numbers of a query's stretch
+abbrev pub writtenOf : ℕ → Found → List ℕ
+writtenOf k f = f .place ∷ f .table .len ∷ f .scored ∷ filled k (rowsOf (f .table))
+
+-- what is found by a mode's rule is its answer
+pub found-writes :
+    (mode : Mode) (ms : List sc.Mention) (k budget N : ℕ) (f : Found) → FoundBy mode ms k budget N f → writtenOf k f ≡ answerOf mode ms k budget N
+found-writes mode ms k budget N f by =
+    ap (λ (n : ℕ). f .place ∷ n ∷ f .scored ∷ filled k (rowsOf (f .table))) (by .size)
+    ∙ found-answer mode ms k budget N (f .place) (f .scored) (rowsOf (f .table)) (by .found)
+
+module _ (s sheet : List ℕ) (r : Record) (docs : ℕ) (a : Asked s sheet r docs) where
+  pub asked-pairs : Pairs s sheet (r .pairs) (r .q)
+  asked-pairs =
+      let f = a .fits in
+      record {
+        few = f .terms .1;
+        all = f .all;
+        term = λ i h. f .pair i h .below;
+        least = λ i h. f .pair i h .weighs .0;
+        most = λ i h. f .pair i h .weighs .1;
+      }
+
+  module _ (ms : List Mention) (g : Gathered s sheet (r .pairs) (r .q) ms) where
+    pub asked-served : Served s ms (r .q) (r .k) docs
+    asked-served =
+        let f = a .fits in
+        let same = index-is s (a .image .0) (a .image .1) in
+        record {
+          some = f .terms .0;
+          few = f .terms .1;
+          least = f .rows .0;
+          most = f .rows .1;
+          all = a .all;
+          small = rw (a .all, same) (docs-small s (a .image .0) (a .image .1));
+          stands = λ x h. g .begins x h .stands;
+        }
+
+    pub asked-answer : (f : Found) → FoundBy (r .mode) (meantOf s (r .q) ms) (r .k) (r .budget) docs f → writtenOf (r .k) f ≡ answer (indexOf s) (recordOf sheet r)
+    unfolding answer mentions
+    asked-answer f by =
+        found-writes (r .mode) (meantOf s (r .q) ms) (r .k) (r .budget) docs f by
+        ∙ rw (gathered-meant s sheet (r .pairs) (r .q) ms g (a .fits .terms .1), a .all)
