@@ -86,7 +86,7 @@ fn count_call(path: &Path, evaluator: &str, sheet: &[u32]) -> Result<f64, String
         .map_err(|error| format!("valgrind: {error}"))?;
     let told = String::from_utf8_lossy(&output.stderr);
     let collected = told.lines().find_map(|line| line.split_once("Collected : "));
-    let count = collected.and_then(|(_, count)| count.trim().parse().ok());
+    let count = collected.and_then(|(_, counts)| counts.split_whitespace().next()?.parse().ok());
     count.ok_or_else(|| format!("callgrind counted nothing:\n{told}"))
 }
 

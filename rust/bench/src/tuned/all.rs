@@ -6,8 +6,8 @@ use super::table::Table;
 use super::unpack::BLOCK;
 use crate::sheet::Query;
 
-/// A list with fewer postings than so many times the leading one's is unpacked.
-const DENSE: u64 = 16;
+/// A list with fewer postings than so many times the documents looked up is unpacked.
+const DENSE: u64 = 32;
 
 enum Lookup<'a> {
     Dense(Box<Scan<'a>>),
@@ -35,11 +35,29 @@ pub fn all_terms(image: Judged, query: &Query, stretch: &mut [u32]) {
         query.pairs.iter().map(|&[term, weight]| (List::new(image, term), weight)).collect();
     lists.sort_unstable_by_key(|(list, _)| list.postings_left());
     let (lead, weight) = lists[0];
-    let others = lists[1..].iter().map(|&(list, weight)| (Lookup::new(list, lead.postings_left()), weight)).collect();
+    let documents = image.header().documents;
+    let others = lookups(lead, &lists[1..], documents);
     let q = lists.len() as u64;
     let mut meeting = Meeting { others, budget: query.budget, q, scored: 0, table: Table::new(query.k) };
-    let place = meeting.walk(lead, weight).unwrap_or(image.header().documents);
+    let place = meeting.walk(lead, weight).unwrap_or(documents);
     meeting.table.fill(stretch, place, meeting.scored);
+}
+
+/// The other lists with their weights, each for the documents that lists before it may leave: as many as if all were
+/// spread evenly.
+fn lookups<'a>(lead: List<'a>, others: &[(List<'a>, u32)], documents: u32) -> Vec<(Lookup<'a>, u32)> {
+    let mut sought = u64::from(lead.postings_left());
+    let mut lookups = Vec::with_capacity(others.len());
+    for &(list, weight) in others {
+        let postings = u64::from(list.postings_left());
+        let lookup = match postings < DENSE * sought {
+            true => Lookup::Dense(Box::new(Scan::new(list))),
+            false => Lookup::Sparse(Seeker::new(list)),
+        };
+        lookups.push((lookup, weight));
+        sought = sought * postings / u64::from(documents.max(1));
+    }
+    lookups
 }
 
 impl Meeting<'_> {
@@ -86,14 +104,7 @@ impl Meeting<'_> {
     }
 }
 
-impl<'a> Lookup<'a> {
-    fn new(list: List<'a>, lead: u32) -> Lookup<'a> {
-        match u64::from(list.postings_left()) < DENSE * u64::from(lead) {
-            true => Lookup::Dense(Box::new(Scan::new(list))),
-            false => Lookup::Sparse(Seeker::new(list)),
-        }
-    }
-
+impl Lookup<'_> {
     #[inline(always)]
     fn seek(&mut self, document: u32) -> Found {
         match self {
