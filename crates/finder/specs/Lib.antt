@@ -3,3 +3,4 @@ pub mod CodeLaws
 pub mod Fill
 pub mod FillLaws
 pub mod PromiseLaws
+pub mod Table
