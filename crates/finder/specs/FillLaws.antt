@@ -123,5 +123,5 @@ module _ {s sheet : List ℕ} {docs : ℕ} {before : List ℕ} (f : Fills s shee
               standing = standing-next sheet T (f .queries) (g .i) at (g .standing) more r is;
               begins = omega (arith, next);
               holds = put-next done before row ys start end (g .holds) done-length (omega arith)
-              ∙ rw (answers-next (indexOf s) (f .queries) (g .i) more d, a, here);
+                  ∙ rw (answers-next (indexOf s) (f .queries) (g .i) more d, a, here);
             }

@@ -1,3 +1,5 @@
+pub mod Code
+pub mod CodeLaws
 pub mod Fill
 pub mod FillLaws
 pub mod PromiseLaws
