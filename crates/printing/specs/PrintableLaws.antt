@@ -1,7 +1,7 @@
 -- What a call that is done leaves can be printed; a sheet has one list of queries; and how many bytes their lines take.
 use mathlib.Core.Path.{_≡_, refl, sym, _∙_}
-use mathlib.Core.List.{List, [], _∷_}
-use Prim.Native.Nat.{ℕ, zero, suc, _+_, _*_, _≤_, _<_}
+use mathlib.Core.List.{List}
+use Prim.Native.Nat.{ℕ, zero, suc, _+_, _*_, _≤_}
 use native.Mathlib.Omega.{arith}
 use lib.ListN.{length, getD, take, drop, length-append, length-take}
 use lib.Seq.{take-suc, take-length, take-all, getD-take, getD-drop}
@@ -20,21 +20,6 @@ use Rattle.sheet.specs.QueryLaws.{query-is, query-here}
 use Rattle.printing.specs.Text.{queryLines, sheetLines}
 use Rattle.printing.specs.TextLaws.{answer-length}
 use Rattle.printing.specs.Printable.{Printable}
-
--- the next stretch starts after this one's 3 + 2k numbers, and none passes the numbers needed
-pub needed-next : (qs : List Query) (i : ℕ) → i < length qs → (d : Query) → needed (take (i + 1) qs) ≡ needed (take i qs) + (3 + 2 * getD qs i d .k)
-unfolding needed
-needed-next [] i h d = absurd (omega arith)
-needed-next (q ∷ qs) zero h d = omega arith
-needed-next (q ∷ qs) (suc i) h d =
-    let e : suc i + 1 ≡ suc (i + 1) = omega arith in
-    rw e (omega (arith, needed-next qs i (omega arith) d))
-
-pub needed-within : (qs : List Query) (i : ℕ) → needed (take i qs) ≤ needed qs
-unfolding needed
-needed-within qs zero = omega arith
-needed-within [] (suc i) = omega arith
-needed-within (q ∷ qs) (suc i) = omega (arith, needed-within qs i)
 
 -- an answer finds no more than k rows
 found-high : (ix : Index) (q : Query) → foundIn (answer ix q) ≤ q .k

@@ -122,17 +122,14 @@ pub fn answers(out: &mut [u8], sheet: &[u32], row: &[u32]) -> usize
     requires { ⌜ Printable (now sheet) (now row) ⌝ }
     ensures { λ r. ⌜ Printed (now (sheet .entry)) (now (row .entry)) (now (out .entry)) (now (out .exit)) r ⌝ }
 {
-    let n = sheet[0];
-    let mut i = 0;
-    let mut query = 1;
+    let mut query: usize = 1;
     let mut from = 0;
     let mut at = 0;
-    while i < n {
+    while query < sheet.len() {
         let asked = sheet::read(sheet, query);
         at = answer_lines(out, at, row, from);
         query = asked.pairs + 2 * asked.q;
         from += 3 + 2 * asked.k;
-        i += 1;
     }
     at
 }

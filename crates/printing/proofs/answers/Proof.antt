@@ -1,25 +1,20 @@
--- `printing::answers` meets its contract: after i turns the lines of the first i queries are laid.
+-- `printing::answers` meets its contract: each turn lays the lines of one query more.
 use Prim.Native.Nat.{_-_}
 use native.Mathlib.Omega.{arith}
-use Rattle.sheet.specs.QueryLaws.{sheet-some}
+use lib.ListN.{length}
 use Rattle.printing.specs.LaidLaws.{wrote-length}
 use Rattle.printing.proofs.Queries.{Going, Turn, start, readable, turn, go-on, gone}
 use Rattle.printing.proofs.answers.Statement.{statement}
 use Rattle.printing.proofs.answers.Tie as tie
 
 abbrev Inv-loop : tie.InvT-loop
-Inv-loop out₀ sheet row n i₀ query₀ from₀ at₀ out i query from at = Going sheet row out₀ n i query from at out
+Inv-loop out₀ sheet row query₀ from₀ at₀ out query from at = Going sheet row out₀ query from at out
 
 abbrev μ-loop : tie.MeasureT-loop
-μ-loop out₀ sheet row n i₀ query₀ from₀ at₀ out i query from at = n - i
-
-shared-slice-read-n : tie.Need-shared-slice-read-n Inv-loop μ-loop
-shared-slice-read-n c =
-    let p = c .before .before .before .before .pre in
-    sheet-some _ _ _ (p .accepted)
+μ-loop out₀ sheet row query₀ from₀ at₀ out query from at = length sheet - query
 
 loop-holds : tie.Need-loop-holds Inv-loop μ-loop
-loop-holds c = start _ _ _ (c .before .before .before .before .pre)
+loop-holds c = start _ _ _ (c .before .before .before .pre)
 
 read-requires : tie.Need-read-requires Inv-loop μ-loop
 read-requires c κs = readable (c .before .loop .inv) (c .loop-test .taken)
@@ -27,8 +22,8 @@ read-requires c κs = readable (c .before .loop .inv) (c .loop-test .taken)
 -- what is known of a turn's record, and of its stretch
 turned : (c : tie.After-read Inv-loop μ-loop) →
     let l = c .before .before in
-    let given = l .before .before .before .before .before .args in
-    Turn (given .sheet .now) (given .row .now) (l .loop .i) (l .loop .from) (l .loop .at) (c .read .result)
+    let given = l .before .before .before .before .args in
+    Turn (given .sheet .now) (given .row .now) (l .loop .query) (l .loop .from) (l .loop .at) (c .read .result)
 turned c = turn (c .before .before .loop .inv) (c .before .loop-test .taken) (c .read .result) (c .read .ensures)
 
 answer-lines-requires : tie.Need-answer-lines-requires Inv-loop μ-loop
@@ -49,13 +44,10 @@ add-from c = omega (arith, turned (c .before .before .before .before .before .be
 add-from-2 : tie.Need-add-from-2 Inv-loop μ-loop
 add-from-2 c =
     let r = c .before .before .before .before .before .before .before in
-    omega (arith, turned r, r .before .before .before .before .before .before .before .good)
-
-add-i : tie.Need-add-i Inv-loop μ-loop
-add-i c = omega (arith, turned (c .before .before .before .before .before .before .before))
+    omega (arith, turned r, r .before .before .before .before .before .before .good)
 
 loop-less : tie.Need-loop-less Inv-loop μ-loop
-loop-less c = omega arith
+loop-less c = omega (arith, turned (c .before .before .before .before .before .before .before))
 
 loop-again : tie.Need-loop-again Inv-loop μ-loop
 loop-again c =
@@ -75,7 +67,6 @@ answers-spec =
     (tie.spec
     Inv-loop
     μ-loop
-    shared-slice-read-n
     loop-holds
     read-requires
     answer-lines-requires
@@ -84,7 +75,6 @@ answers-spec =
     mul-from
     add-from
     add-from-2
-    add-i
     loop-less
     loop-again
     same-length
