@@ -1,7 +1,11 @@
 // The whole call: the image judged once, then the sheet, then the room, then each query into its own stretch of the answer row. Document 01,
 // "What a call says".
 use meaning::Outcome;
+ghost use mathlib.Core.Path.{_≡_};
+ghost use Rattle.meaning.specs.Call.{says};
 ghost use Rattle.meaning.specs.OnlyLaws.{Promise};
+ghost use Rattle.finder.specs.Code.{codeOf, Exported};
+ghost use Rattle.finder.specs.CodeLaws.{Small};
 ghost use Rattle.finder.specs.Fill.{Fills, Filled};
 
 // Each query of an accepted sheet is lent its own stretch of the answer row, which starts where the previous one ended.
@@ -39,4 +43,23 @@ pub fn answer(image: &[u8], sheet: &[u32], row: &mut [u32]) -> Outcome
             }
         }
     }
+}
+
+// An outcome as one number: 0 for done or the refusal's number, times 2^56, and the count or the place.
+fn code(said: Outcome) -> u64
+    requires { ⌜ Small (says said) ⌝ }
+    ensures { λ r. ⌜ r ≡ codeOf (says said) ⌝ }
+{
+    match said {
+        Outcome::Done(count) => count as u64,
+        Outcome::Refused(number, place) => number as u64 * 72057594037927936 + place as u64,
+    }
+}
+
+// The same call for C and Rust: each slice is a pointer and its number of elements, and the outcome is one number.
+#[no_mangle]
+pub extern "C" fn finder_answer(image: &[u8], sheet: &[u32], row: &mut [u32]) -> u64
+    ensures { λ r. ⌜ Exported (now (image .entry)) (now (sheet .entry)) (now (row .entry)) r (now (row .exit)) ⌝ }
+{
+    code(answer(image, sheet, row))
 }
