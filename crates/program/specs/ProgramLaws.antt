@@ -56,18 +56,26 @@ module _ (image sheet row : List ℕ) where
       by-said (bad n p) e = rw (← refused-lines e) (omega (arith, refused-length n p))
       by-said (good count) e = done-fit e
 
--- where an answer is asked for, what is printed is the call's
-pub go-lines : (lines : List ℕ) → lines ≡ decidedLines Go lines
-unfolding decidedLines
-go-lines lines = refl
-
--- and else it is the decision's own line
-pub other-lines : (d : Decision) (lines : List ℕ) → (Go ≡ d → ⊥) → decisionLine d ≡ decidedLines d lines
+-- where an answer is asked for, what is printed is the call's, and else it is the decision's own line
+other-lines : (d : Decision) (lines : List ℕ) → (Go ≡ d → ⊥) → decisionLine d ≡ decidedLines d lines
 unfolding decidedLines
 other-lines NoFile lines n = refl
 other-lines TooLarge lines n = refl
 other-lines OddSheet lines n = refl
 other-lines Go lines n = absurd (n refl)
+
+module _ (index? : Bool) (index : List ℕ) (sheet? : Bool) (sheet : List ℕ) {out after : List ℕ} {next : ℕ} where
+  pub go-printed :
+      Go ≡ decided index? (length index) sheet? (length sheet) → Wrote 0 (callLines index (numbersOf sheet) (replicate 8384 0)) out after next →
+      Wrote 0 (programLines index? index sheet? sheet) out after next
+  unfolding programLines decidedLines
+  go-printed e w = rw (← e) w
+
+  pub other-printed :
+      {d : Decision} → d ≡ decided index? (length index) sheet? (length sheet) → (Go ≡ d → ⊥) → Wrote 0 (decisionLine d) out after next →
+      Wrote 0 (programLines index? index sheet? sheet) out after next
+  unfolding programLines
+  other-printed {d} e n w = rw (← e, ← other-lines d _ n) w
 
 decided-fit : (d : Decision) (lines : List ℕ) → length lines ≤ 176064 → length (decidedLines d lines) ≤ 176064
 unfolding decidedLines

@@ -9,10 +9,9 @@ use denote.Enum.Declared.{tagOf}
 use Rattle.printing.proofs.Decision.{the-type}
 use Rattle.printing.specs.declared.Decision.{Decision}
 use Rattle.printing.specs.declared.Decision.the-variants.{Go}
-use Rattle.program.specs.Program.{programLines}
 use Rattle.printing.specs.DecideLaws.{go-is}
 use Rattle.printing.specs.NumbersLaws.{taken-whole}
-use Rattle.program.specs.ProgramLaws.{go-lines, other-lines}
+use Rattle.program.specs.ProgramLaws.{go-printed, other-printed}
 use borrow.Author.Needs.{needs}
 use Rattle.program.proofs.printed.Statement.{statement}
 use Rattle.program.proofs.printed.Tie as tie
@@ -34,11 +33,10 @@ same-length : tie.Need-same-length
 same-length c = search needs
 
 returns : tie.Need-returns
-unfolding programLines
 returns c =
     let d = c .before .before .before .before .before .decide in
     let m = c .before .before .before .before .match .keys2 in
-    rw (← d .ensures, ← other-lines (d .result) _ (λ g. not-go (d .result) g m)) (c .before .before .decision-line .ensures)
+    other-printed _ _ _ _ (d .ensures) (λ g. not-go (d .result) g m) (c .before .before .decision-line .ensures)
 
 slice-aggregate-numbers : tie.Need-slice-aggregate-numbers
 slice-aggregate-numbers c = search needs
@@ -64,14 +62,13 @@ same-length-2 : tie.Need-same-length-2
 same-length-2 c = search needs
 
 returns-2 : tie.Need-returns-2
-unfolding programLines
 returns-2 c =
     let read = c .before .before .before .before .before .before .before .before in
     let told = read .before .before in
     let n = read .numbers in
     let e = sym (told .enum-told .given .1) ∙ told .before .before .decide .ensures in
     let all = taken-whole (n .ensures) (omega (arith, go-is _ _ _ _ e)) in
-    rw (← e, ← go-lines _) (rw all at (c .before .before .before .called .ensures))
+    go-printed _ _ _ _ e (rw all at (c .before .before .before .called .ensures))
 
 pub printed-spec : {M : Type 1} → statement M
 printed-spec =
