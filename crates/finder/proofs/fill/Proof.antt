@@ -59,10 +59,10 @@ answer-query-requires : tie.Need-answer-query-requires Inv-loop μ-loop
 answer-query-requires c κs = (asked (c .before .before), simp (length-take, length-drop) (omega (arith, room (c .before .before), kept (c .before .before .before .before))))
 
 mul-at : tie.Need-mul-at Inv-loop μ-loop
-mul-at c = omega (arith, asked (c .before .before .before .before .before .before) .fits .all)
+mul-at c = omega (arith, asked (c .before .before .before .before .before .before) .fits .all, asked (c .before .before .before .before .before .before) .fits .terms)
 
 add-at : tie.Need-add-at Inv-loop μ-loop
-add-at c = omega (arith, asked (c .before .before .before .before .before .before .before) .fits .all)
+add-at c = omega (arith, asked (c .before .before .before .before .before .before .before) .fits .all, asked (c .before .before .before .before .before .before .before) .fits .terms)
 
 loop-less : tie.Need-loop-less Inv-loop μ-loop
 loop-less c = search needs
