@@ -14,17 +14,12 @@ use Rattle.meaning.specs.Call.{answers, needed}
 use Rattle.meaning.specs.CallLaws.{answers-length}
 use Rattle.sheet.specs.declared.Record.{Record}
 use Rattle.sheet.specs.Record.{Readable, IsRecord, recordOf, queryFrom}
+use Rattle.sheet.specs.QueryLaws.{needed-next, needed-most}
 use Rattle.sheet.specs.Standing.{Standing, standing-first, standing-query, standing-readable, standing-fits, standing-next, standing-more, standing-over}
 use Rattle.search.specs.Asked.{Asked}
 use Rattle.finder.specs.Fill.{Fills, Filled}
 
 -- one query more
-needed-next : (qs : List Query) (i : ℕ) → i < length qs → (d : Query) → needed (take (i + 1) qs) ≡ needed (take i qs) + (3 + 2 * getD qs i d .k)
-unfolding needed
-needed-next [] i h d = absurd (omega arith)
-needed-next (q ∷ qs) zero h d = omega arith
-needed-next (q ∷ qs) (suc i) h d = let e : suc i + 1 ≡ suc (i + 1) = omega arith in rw e (omega (arith, needed-next qs i (omega arith) d))
-
 answers-next : (ix : Index) (qs : List Query) (i : ℕ) → i < length qs → (d : Query) → answers ix (take (i + 1) qs) ≡ answers ix (take i qs) ++ answer ix (getD qs i d)
 unfolding answers
 answers-next ix [] i h d = absurd (omega arith)
@@ -32,14 +27,6 @@ answers-next ix (q ∷ qs) zero h d = append-nil (answer ix q)
 answers-next ix (q ∷ qs) (suc i) h d =
     let e : suc i + 1 ≡ suc (i + 1) = omega arith in
     rw (e, answers-next ix qs i (omega arith) d) (sym (append-assoc (answer ix q) (answers ix (take i qs)) (answer ix (getD qs i d))))
-
--- the first queries need no more than all
-needed-most : (qs : List Query) (i : ℕ) → needed (take i qs) ≤ needed qs
-unfolding needed
-needed-most [] zero = omega arith
-needed-most [] (suc i) = omega arith
-needed-most (q ∷ qs) zero = omega arith
-needed-most (q ∷ qs) (suc i) = omega (arith, needed-most qs i)
 
 -- the next stretch put into a row that begins with what is done
 put-next : (done before row ys : List ℕ) (start end : ℕ) → row ≡ done ++ drop start before → length done ≡ start → start ≤ end →

@@ -183,6 +183,21 @@ module _ (s : List ℕ) (T : ℕ) where
   needed-bound at [] f = omega arith
   needed-bound at (q ∷ qs) f = omega (arith, f .0 .rows, needed-bound (at + 4 + 2 * length (q .pairs)) qs (f .1))
 
+-- the next stretch starts after this one's 3 + 2k numbers, and no stretch passes the numbers needed
+pub needed-next : (qs : List Query) (i : ℕ) → i < length qs → (d : Query) → needed (take (i + 1) qs) ≡ needed (take i qs) + (3 + 2 * getD qs i d .k)
+unfolding needed
+needed-next [] i h d = absurd (omega arith)
+needed-next (q ∷ qs) zero h d = omega arith
+needed-next (q ∷ qs) (suc i) h d =
+    let e : suc i + 1 ≡ suc (i + 1) = omega arith in
+    rw e (omega (arith, needed-next qs i (omega arith) d))
+
+pub needed-most : (qs : List Query) (i : ℕ) → needed (take i qs) ≤ needed qs
+unfolding needed
+needed-most qs zero = omega arith
+needed-most [] (suc i) = omega arith
+needed-most (q ∷ qs) (suc i) = omega (arith, needed-most qs i)
+
 -- what a judged sheet's count says of the sheet, and what its fault does
 pub needed-good : (j : Judged (List Query)) (count : ℕ) → good count ≡ neededOf j → (qs : List Query) × (j ≡ good qs) × (needed qs ≡ count)
 unfolding neededOf
