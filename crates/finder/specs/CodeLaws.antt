@@ -1,7 +1,7 @@
 -- The numbers of a call are small, so that its code holds them side by side, and two calls with one code say the same.
 use mathlib.Core.Path.{_≡_, refl, sym, ap, _∙_}
 use mathlib.Core.List.{List}
-use Prim.Native.Nat.{ℕ, _+_, _*_, _≤_, _<_}
+use Prim.Native.Nat.{ℕ, _≤_, _<_}
 use native.Mathlib.Omega.{arith}
 use lib.Dec.{leb}
 use lib.ListN.{length}
@@ -10,14 +10,13 @@ use Rattle.meaning.specs.Judged.{Judged, good, bad}
 use Rattle.meaning.specs.JudgedLaws.{Faults, no-fault, need-faults, bind-faults, more-faults}
 use Rattle.meaning.specs.BitsLaws.{bits-lt}
 use Rattle.meaning.specs.Layout.{headerOf}
-use Rattle.meaning.specs.Image.{imageOf}
 use Rattle.meaning.specs.Sheet.{Query, sheetOf}
 use Rattle.meaning.specs.SheetFits.{Within}
 use Rattle.meaning.specs.SheetLaws.{sheet-good}
 use Rattle.meaning.specs.PlaceFits.{InRows}
 use Rattle.meaning.specs.RefusalLaws.{image-fault, sheet-place}
 use Rattle.meaning.specs.Call.{needed, judged, call}
-use Rattle.meaning.specs.CallLaws.{CallFits, refused-same, done-exactly}
+use Rattle.meaning.specs.CallLaws.{refused-same, done-exactly}
 use Rattle.sheet.specs.QueryLaws.{needed-bound}
 use Rattle.finder.specs.Code.{codeOf, Exported}
 

@@ -1,5 +1,5 @@
 -- P1 to P12 under the promise of `answer`: "P1 to P12 are proved as one table under a single claim".
-use mathlib.Core.Path.{_≡_, sym, ap, _∙_}
+use mathlib.Core.Path.{_≡_, ap, _∙_}
 use mathlib.Core.List.{List, [], _∷_, map}
 use Prim.Native.Nat.{ℕ}
 use Rattle.lists.specs.Each.{Each}

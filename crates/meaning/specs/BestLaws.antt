@@ -36,7 +36,7 @@ pub record Best (mode : Mode) (ms : List Mention) (k p found : ℕ) (row : ℕ �
 
 module _ (mode : Mode) (ms : List Mention) where
   -- exhaustive ranked evaluation has every matching document with its true score, and no other
-  pub ranked-has : (p d : ℕ) → d < p → matches mode ms d ≡ true → Has noRow (rowOf ms d) (ranked mode ms p)
+  ranked-has : (p d : ℕ) → d < p → matches mode ms d ≡ true → Has noRow (rowOf ms d) (ranked mode ms p)
   ranked-has zero d h m = absurd (omega arith)
   ranked-has (suc p) d h m =
       by-order d p
@@ -56,7 +56,7 @@ module _ (mode : Mode) (ms : List Mention) where
   ranked-true (suc d) =
       by-test (matches mode ms d) (λ e. rw e (insert-each True (rowOf ms d) (e, refl) (ranked mode ms d) (ranked-true d))) (λ e. rw e (ranked-true d))
 
-  pub ranked-length : (p : ℕ) → length (ranked mode ms p) ≡ matching mode ms p
+  ranked-length : (p : ℕ) → length (ranked mode ms p) ≡ matching mode ms p
   unfolding ranked matching
   ranked-length zero = refl
   ranked-length (suc d) =
@@ -64,7 +64,7 @@ module _ (mode : Mode) (ms : List Mention) where
 
   module _ (k p : ℕ) where
     -- the first k of them are the best k
-    pub ranked-best : Best mode ms k p (length (rowsAt mode ms k p)) (λ i. getD (ranked mode ms p) i noRow)
+    ranked-best : Best mode ms k p (length (rowsAt mode ms k p)) (λ i. getD (ranked mode ms p) i noRow)
     ranked-best =
         let l = ranked mode ms p in
         let first = length-take k l in

@@ -69,11 +69,8 @@ module _ (s : List ℕ) (ix : Index) (e : imageOf s ≡ good ix) where
   pub index-terms : length (ix .terms) ≡ headerOf s .terms
   index-terms = image-good s ix e .terms
 
-  pub index-docs : ix .docs ≡ headerOf s .docs
+  index-docs : ix .docs ≡ headerOf s .docs
   index-docs = image-good s ix e .docs
-
-  pub terms-small : length (ix .terms) < 2 ^ 12
-  terms-small = rw index-terms (bits-lt s 4 12)
 
   pub docs-small : ix .docs < 2 ^ 24
   docs-small = rw index-docs (bits-lt s 16 24)

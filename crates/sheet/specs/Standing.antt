@@ -9,10 +9,10 @@ use Rattle.lists.specs.Tests.{by-order}
 use Rattle.meaning.specs.Judged.{good}
 use Rattle.meaning.specs.Sheet.{Query, queryAt, sheetOf}
 use Rattle.meaning.specs.SheetFits.{QueriesFit}
-use Rattle.meaning.specs.SheetLaws.{numbersOf, sheet-good}
+use Rattle.meaning.specs.SheetLaws.{numbersOf, query-good, sheet-good}
 use Rattle.sheet.specs.declared.Record.{Record}
 use Rattle.sheet.specs.Record.{Readable, IsRecord, queryFrom}
-use Rattle.sheet.specs.QueryLaws.{RecordFits, record-fits, record-terms, query-fits, query-here}
+use Rattle.sheet.specs.QueryLaws.{RecordFits, record-fits, record-terms, query-here}
 
 -- query i of the accepted sheet s stands at number `at`
 pub record Standing (s : List ℕ) (T : ℕ) (qs : List Query) (i at : ℕ) : Type 0 where
@@ -67,4 +67,4 @@ module _ (s : List ℕ) (T : ℕ) (qs : List Query) (i at : ℕ) (st : Standing 
 
   pub standing-over : length s ≤ at → length qs ≤ i
   standing-over h =
-      by-order i (length qs) (λ l. let d = queryFrom s 0 in absurd (omega (arith, query-fits s T i at (getD qs i d) (standing-query s T qs i at st l d) .four))) (λ g. g)
+      by-order i (length qs) (λ l. let d = queryFrom s 0 in absurd (omega (arith, query-good s T i at (getD qs i d) (standing-query s T qs i at st l d) .four))) (λ g. g)

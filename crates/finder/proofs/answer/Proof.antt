@@ -1,7 +1,6 @@
-use mathlib.Core.Path.{_≡_, refl, sym, ap, _∙_}
-use Prim.Native.Nat.{ℕ, suc, _+_, _-_, _*_, _≤_, _<_}
-use native.Mathlib.Omega.{arith}
-use lib.ListN.{length, take, drop, getD, set}
+use mathlib.Core.Path.{_≡_, sym, ap, _∙_}
+use Prim.Native.Nat.{ℕ}
+use lib.ListN.{length}
 use Rattle.meaning.specs.Image.{indexOf, Accepted}
 use Rattle.meaning.specs.Judged.{Judged}
 use Rattle.meaning.specs.Sheet.{sheetOf}

@@ -1,13 +1,11 @@
 -- `finder::code` meets its contract: the number and the value do not meet in the 64 bits.
-use mathlib.Core.Path.{_≡_, sym, ap}
+use mathlib.Core.Path.{sym, ap}
 use native.Mathlib.Omega.{arith}
 use Rattle.meaning.specs.declared.Outcome.{Outcome}
-use Rattle.meaning.specs.declared.Outcome.the-variants.{Refused}
 use Rattle.meaning.specs.SheetFits.{Within}
 use Rattle.meaning.specs.Call.{says}
 use Prim.Native.Nat.{_≤_}
 use Rattle.finder.specs.Code.{codeOf}
-use Rattle.finder.specs.CodeLaws.{Small}
 use borrow.Author.Needs.{needs}
 use Rattle.finder.proofs.code.Statement.{statement}
 use Rattle.finder.proofs.code.Tie as tie

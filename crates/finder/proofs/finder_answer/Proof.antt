@@ -1,6 +1,5 @@
 -- `finder_answer` meets its contract: the call's outcome as its code.
-use mathlib.Core.Path.{_≡_, ap, _∙_}
-use Rattle.meaning.specs.Call.{says}
+use mathlib.Core.Path.{ap, _∙_}
 use Rattle.finder.specs.Code.{codeOf}
 use Rattle.finder.specs.CodeLaws.{call-small}
 use borrow.Author.Needs.{needs}
