@@ -1,9 +1,9 @@
 -- A query of mode 2 in its loop: what holds before each walk, whichever query's mentions the array has in order.
 use mathlib.Core.Path.{_≡_, refl, sym, ap, subst, _∙_}
 use mathlib.Core.List.{List, []}
-use Prim.Native.Nat.{ℕ, zero, suc, _+_, _-_, _*_, _≤_, _<_}
+use Prim.Native.Nat.{ℕ, suc, _+_, _-_, _≤_, _<_}
 use native.Mathlib.Omega.{arith}
-use lib.ListN.{length, take, drop, getD}
+use lib.ListN.{length, take}
 use lib.Seq.{take-nil}
 use Rattle.lists.specs.Each.{each-more}
 use Rattle.meaning.specs.declared.Mode.the-variants.{All}
