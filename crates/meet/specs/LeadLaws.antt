@@ -22,8 +22,8 @@ use Rattle.mentions.specs.declared.Mention.{Mention}
 use Rattle.mentions.specs.Mentions.{none, meant}
 use Rattle.walk.specs.Stand.{Stands}
 use Rattle.walk.specs.Walk.{meantOf}
-use Rattle.meet.specs.Sorted.{sortedBy}
-use Rattle.meet.specs.SortedLaws.{sorted-sum, sorted-length, sorted-each, Rises, sorted-rises}
+use Rattle.lists.specs.Sorted.{sortedBy}
+use Rattle.lists.specs.SortedLaws.{sorted-sum, sorted-length, sorted-each, Rises, sorted-rises}
 use Rattle.meet.specs.Meet.{postingsLeft, led}
 
 -- what a record says is left is what its cursor has left

@@ -11,7 +11,7 @@ ghost use Rattle.meaning.specs.Image.{indexOf};
 ghost use Rattle.runs.specs.declared.Turn.the-variants.{Entered};
 ghost use Rattle.mentions.specs.Mentions.{none};
 ghost use Rattle.walk.specs.Walk.{meantOf, runOf};
-ghost use Rattle.meet.specs.Sorted.{settledIn};
+ghost use Rattle.lists.specs.Sorted.{settledIn};
 ghost use Rattle.meet.specs.Meet.{postingsLeft, led, Meets, meetBy, Leaves};
 
 // The postings that a mention has left, the current one among them.

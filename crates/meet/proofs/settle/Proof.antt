@@ -1,9 +1,9 @@
 -- `settle` meets its contract: with the mention in hand settled from the open place on, the array is the one asked for.
 use mathlib.Core.Logic.{⊎-elim}
 use Rattle.mentions.specs.Mentions.{none}
-use Rattle.meet.specs.Sorted.{settledIn}
+use Rattle.lists.specs.Sorted.{settledIn}
 use Rattle.meet.specs.Meet.{postingsLeft}
-use Rattle.meet.proofs.Settling.{settle-on, settle-before, settle-last}
+use Rattle.lists.specs.Settling.{settle-on, settle-before, settle-last}
 use mathlib.Core.Path.{_≡_, refl, _∙_}
 use Prim.Native.Nat.{_-_, _<_}
 use native.Mathlib.Omega.{arith}
