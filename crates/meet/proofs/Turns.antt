@@ -266,18 +266,18 @@ module _ {s : List ℕ} {os : List sc.Mention} {bar q budget : ℕ} {run : Run} 
             let r = here .at in
             let at : past + 1 - 1 ≡ suc (past - 1) = omega (arith, there) in
             let leaves : Leaves s os q (record { ms = ms; turn = Entered; past = past; sum = sum; count = count + q; next = past + 1 }) =
-                record {
-                  next = refl;
-                  means = placed-meant (r .placed) (r .ground .whole) (omega (arith, r .long, r .ground .few));
-                  meets = record {
-                    some = r .ground .some;
-                    few = r .ground .few;
-                    least = omega arith;
-                    most = omega (arith, inside here end);
-                    lags = rw at (later-aside r (suc (past - 1)) (omega arith));
-                    spare = rw at (omega (arith, r .spare, r .ground .few));
-                  };
-                } in
+            record {
+              next = refl;
+              means = placed-meant (r .placed) (r .ground .whole) (omega (arith, r .long, r .ground .few));
+              meets = record {
+                some = r .ground .some;
+                few = r .ground .few;
+                least = omega arith;
+                most = omega (arith, inside here end);
+                lags = rw at (later-aside r (suc (past - 1)) (omega arith));
+                spare = rw at (omega (arith, r .spare, r .ground .few));
+              };
+            } in
             rw (same, k .paid) (rw at-doc (entered here end (omega (arith, k .paid)) h), (k .least, λ t. leaves))
 
         pub passes : sum ≤ bar → Looping s os bar q budget run cost (past + 1) ms (count + cost) 0 0
