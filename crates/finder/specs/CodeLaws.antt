@@ -49,7 +49,9 @@ module _ (image sheet row : List ℕ) where
   call-small = by-said (call image sheet row .said) refl
     where
       by-said : (m : Judged ℕ) → call image sheet row .said ≡ m → Small m
-      by-said (good count) e = let f = done-exactly image sheet row count .0 e in omega (arith, f .sum, needed-bound sheet _ 1 (f .queries) (f .sheet-fits .queries), f .sheet-fits .some)
+      by-said (good count) e =
+          let f = done-exactly image sheet row count .0 e in
+          omega (arith, f .sum, needed-bound sheet _ 1 (f .queries) (f .sheet-fits .queries), f .sheet-fits .some)
       by-said (bad number place) e = judged-few .given number place (refused-same image sheet row number place .0 e)
 
 -- no two things that a call can say have one code
@@ -64,5 +66,6 @@ code-same (bad n p) (bad m q) x y e =
     rw (number, place)
 
 -- "that no two outcomes satisfy it for one input is proved"
-pub exported-only : (image sheet row : List ℕ) (a b : ℕ) (x y : List ℕ) → Exported image sheet row a x → Exported image sheet row b y → (a ≡ b) × (x ≡ y)
+pub exported-only : (image sheet row : List ℕ) (a b : ℕ) (x y : List ℕ) →
+    Exported image sheet row a x → Exported image sheet row b y → (a ≡ b) × (x ≡ y)
 exported-only image sheet row a b x y p q = (p .code-is ∙ sym (q .code-is), p .row-is ∙ sym (q .row-is))

@@ -20,7 +20,8 @@ use Rattle.search.specs.Asked.{Asked}
 use Rattle.finder.specs.Fill.{Fills, Filled}
 
 -- one query more
-answers-next : (ix : Index) (qs : List Query) (i : ℕ) → i < length qs → (d : Query) → answers ix (take (i + 1) qs) ≡ answers ix (take i qs) ++ answer ix (getD qs i d)
+answers-next : (ix : Index) (qs : List Query) (i : ℕ) → i < length qs → (d : Query) →
+    answers ix (take (i + 1) qs) ≡ answers ix (take i qs) ++ answer ix (getD qs i d)
 unfolding answers
 answers-next ix [] i h d = absurd (omega arith)
 answers-next ix (q ∷ qs) zero h d = append-nil (answer ix q)

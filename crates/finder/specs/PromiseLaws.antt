@@ -30,12 +30,14 @@ unfolding roomed neededOf
 room-faults (bad m p) n ix number place e = cc
 room-faults (good qs) n ix number place e = by-room (leb (needed qs) n) e
   where
-    by-room : (fits : Bool) → bad number place ≡ (need fits 15 (needed qs) >>= λ _. good (needed qs)) → (need fits 15 (needed qs) >>= λ _. good (answers ix qs)) ≡ bad number place
+    by-room : (fits : Bool) → bad number place ≡ (need fits 15 (needed qs) >>= λ _. good (needed qs)) →
+        (need fits 15 (needed qs) >>= λ _. good (answers ix qs)) ≡ bad number place
     by-room false e = cc
     by-room true e = absurd (let z : _≡_ {A = ℕ} 0 1 = cc in omega arith)
 
 -- and where they accept, the row has room for the answers of the queries read
-room-fits : (j : Judged (List Query)) (n count : ℕ) → good count ≡ roomed (neededOf j) n → (qs : List Query) × (j ≡ good qs) × (needed qs ≤ n) × (count ≡ needed qs)
+room-fits : (j : Judged (List Query)) (n count : ℕ) → good count ≡ roomed (neededOf j) n →
+    (qs : List Query) × (j ≡ good qs) × (needed qs ≤ n) × (count ≡ needed qs)
 unfolding roomed
 room-fits j n count e =
     let x = bind-good (neededOf j) _ (sym e) in
@@ -66,7 +68,8 @@ module _ (image sheet row : List ℕ) where
 
     pub sheet-refused : (number place : ℕ) → bad number place ≡ roomed (neededOf (sheetOf sheet T)) (length row) → Promise image sheet row (Refused number place) row
     unfolding judged ix
-    sheet-refused number place e = refusal number place (rw (a .1, ← read, terms) (room-faults (sheetOf sheet T) (length row) (indexOf image) number place e))
+    sheet-refused number place e =
+        refusal number place (rw (a .1, ← read, terms) (room-faults (sheetOf sheet T) (length row) (indexOf image) number place e))
 
     module _ (count : ℕ) (e : good count ≡ roomed (neededOf (sheetOf sheet T)) (length row)) where
       pub sheet-fills : Fills image sheet docs row
@@ -89,4 +92,8 @@ module _ (image sheet row : List ℕ) where
             sum = x .3;
           } in
           let whole = done-is image sheet row f in
-          record { outcome-is = sym (ap (λ (c : Called). c .said) whole); row-is = filled (x .0) fine ∙ ap (λ (n : ℕ). answers (indexOf image) (x .0) ++ drop n row) (sym (x .3)) ∙ sym (ap (λ (c : Called). c .row) whole) }
+          let sized = ap (λ (n : ℕ). answers (indexOf image) (x .0) ++ drop n row) (sym (x .3)) in
+          record {
+            outcome-is = sym (ap (λ (c : Called). c .said) whole);
+            row-is = filled (x .0) fine ∙ sized ∙ sym (ap (λ (c : Called). c .row) whole);
+          }

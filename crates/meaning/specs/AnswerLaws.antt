@@ -78,14 +78,16 @@ module _ (mode : Mode) (ms : List Mention) (k budget N : ℕ) where
   unfolding answerOf
   answer-is = rw (length-take k (ranked mode ms p), filled-take k (ranked mode ms p))
 
-  -- "place, rows found, postings scored"
+  -- "place": where the stop rule puts it
   pub answer-place : placeIn a ≡ p
   unfolding answerOf
   answer-place = refl
 
+  -- "rows found"
   pub answer-found : foundIn a ≡ length rows
   answer-found = ap foundIn answer-is
 
+  -- "Postings scored is the sum of costs of visited documents below the place."
   pub answer-scored : scoredIn a ≡ spent (costAt mode ms k) p
   unfolding answerOf
   answer-scored = refl

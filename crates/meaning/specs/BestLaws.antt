@@ -97,7 +97,7 @@ module _ (mode : Mode) (ms : List Mention) (k budget N : ℕ) where
   abbrev a : List ℕ
   a = answerOf mode ms k budget N
 
-  -- the rows of an answer are the best k among the matching documents below its place
+  -- "Its rows are exactly the best k among matching clips below the place it reports"
   pub answer-best : Best mode ms k (placeIn a) (foundIn a) (rowIn a)
   answer-best =
       let p = placeOf mode ms k budget N in

@@ -40,7 +40,7 @@ rising-order N next (p ∷ ps) r i zero l h = absurd (omega arith)
 rising-order N next (p ∷ ps) r zero (suc j) l h = rising-from N (suc (p .doc)) ps (r .3) j (omega arith) .0
 rising-order N next (p ∷ ps) r (suc i) (suc j) l h = rising-order N (suc (p .doc)) ps (r .3) i j (omega arith) (omega arith)
 
--- the true largest impact is at least each, and is one of them
+-- "largest impact of the list": the true one is at least each, and is one of them
 pub largest-top : (ps : List Posting) (i : ℕ) → postingAt ps i .impact ≤ largestOf ps
 unfolding largestOf
 largest-top [] i = omega arith
@@ -90,6 +90,7 @@ module _ (s : List ℕ) (ix : Index) (e : imageOf s ≡ good ix) where
   pub list-rises : (t : ℕ) → t < length (ix .terms) → Rising (ix .docs) 0 (listAt ix t)
   list-rises t h = list-sound t h .0
 
+  -- so the documents of a list rise
   pub documents-rise : (t : ℕ) → t < length (ix .terms) → (i j : ℕ) → i < j → j < length (listAt ix t) → postingAt (listAt ix t) i .doc < postingAt (listAt ix t) j .doc
   documents-rise t h = rising-order (ix .docs) 0 (listAt ix t) (list-rises t h)
 
@@ -111,9 +112,10 @@ module _ (s : List ℕ) (ix : Index) (e : imageOf s ≡ good ix) where
       let small = largest-true t h .1 in
       (some, omega arith)
 
-  -- "number of postings (24)" of the entry, and 4: "postings above N"
+  -- "number of postings (24)" of the entry
   pub postings-count : (t : ℕ) → t < length (ix .terms) → length (listAt ix t) ≡ entryAt s t .count
   postings-count t h = term-at s ix e t h .count
 
+  -- 4: "postings above N"
   pub postings-few : (t : ℕ) → t < length (ix .terms) → length (listAt ix t) ≤ ix .docs
   postings-few t h = omega (arith, postings-count t h, term-at s ix e t h .entry .count)

@@ -47,6 +47,7 @@ module _ (s : List ℕ) (ix : Index) (e : imageOf s ≡ good ix) (sheet : List �
     unfolding mentions
     mentions-few = let few = f .terms in omega (arith, length-map (q .pairs) (mentionOf ix))
 
+    -- "q (1 to 16)", "weight (1 to 255)", and no impact above the list's largest: what the laws of mode 1 ask
     pub mentions-fit : Fit (mentions ix q)
     unfolding mentions
     mentions-fit =
@@ -66,7 +67,7 @@ module _ (s : List ℕ) (ix : Index) (e : imageOf s ≡ good ix) (sheet : List �
     pub score-at-most : (d : ℕ) → score (mentions ix q) d ≤ 1040400
     score-at-most d = score-fits d (mentions ix q) mentions-few mentions-small
 
-    -- so every number of the query's answer fits 32 bits
+    -- "lent rows of 32-bit numbers": every number of the query's answer fits
     pub answer-fits : Each Word (answer ix q)
     unfolding answer
     answer-fits =

@@ -35,7 +35,7 @@ some-matches Plain ms d by h = lt-ltb 0 (holders ms d) h
 some-matches Pruned ms d by h = lt-ltb 0 (holders ms d) h
 some-matches All ms d by h = absurd by
 
--- a document has a cost exactly where it is visited
+-- "Postings scored is the sum of costs of visited documents": a document has a cost exactly where it is visited
 pub visits-cost : (mode : Mode) (ms : List Mention) → 0 < length ms → (b d : ℕ) → ltb 0 (cost mode ms b d) ≡ visits mode ms b d
 unfolding visits cost matches
 visits-cost Plain ms some b d = refl

@@ -30,6 +30,7 @@ three = 3 ∷ 0 ∷ 3 ∷ 100 ∷ 2 ∷ 0 ∷ 1 ∷ 1 ∷ 2 ∷ 1 ∷ 2 ∷ 5 �
 unfoldable pub lent : List ℕ
 lent = 9 ∷ 9 ∷ 9 ∷ 9 ∷ 9 ∷ 9 ∷ 9 ∷ 9 ∷ 9 ∷ 9 ∷ 9 ∷ 9 ∷ 9 ∷ 9 ∷ 9 ∷ 9 ∷ 9 ∷ 9 ∷ 9 ∷ 9 ∷ 9 ∷ 9 ∷ []
 
+-- "the next begins at that bit, in the middle of a byte or not"
 -- scores: 3 has 5, 9 has 2 + 6, 10 has 7, 20 has 1, 21 has 4 + 12, 40 has 2.
 -- Mode 0 scores all 8 postings. Mode 1 has ceilings 7 and 12: it scores 1 at 3, 2 at 9 and, the bar being 5, 1 at 10; then the bar is 7,
 -- list 0 is set aside, 20 is not visited, and at 21 it stops, as 4 + 2 exceeds 5. Mode 2 scores 2 at 9 and stops at 21, as 2 + 2 exceeds 2

@@ -7,14 +7,14 @@ use lib.ListN.{length, take, set, length-append}
 use lib.Seq.{length-sets, sets-eq, set-out, take-at}
 use Rattle.printing.specs.Laid.{laid, Wrote}
 
-pub laid-append : (at : ℕ) (t u o : List ℕ) → laid at (t ++ u) o ≡ laid (at + length t) u (laid at t o)
+laid-append : (at : ℕ) (t u o : List ℕ) → laid at (t ++ u) o ≡ laid (at + length t) u (laid at t o)
 unfolding laid
 laid-append at [] u o = let e : at + 0 ≡ at = omega arith in rw e
 laid-append at (b ∷ t) u o =
     let e : at + suc (length t) ≡ suc at + length t = omega arith in
     rw e (laid-append (suc at) t u (set o at b))
 
-pub laid-length : (at : ℕ) (t o : List ℕ) → length (laid at t o) ≡ length o
+laid-length : (at : ℕ) (t o : List ℕ) → length (laid at t o) ≡ length o
 unfolding laid
 laid-length at t o = length-sets o at t
 

@@ -9,7 +9,7 @@ use lib.Seq.{take-suc, take-all, take-at, length-front}
 use Rattle.lists.specs.Front.{front, front-set}
 use Rattle.printing.specs.Numbers.{fourBytes, numbersOf, Taken}
 
-pub numbers-length : (s : List ℕ) → length (numbersOf s) ≡ length s / 4
+numbers-length : (s : List ℕ) → length (numbersOf s) ≡ length s / 4
 unfolding numbersOf
 numbers-length [] = refl
 numbers-length (a ∷ []) = refl

@@ -52,7 +52,7 @@ decimal-shorter x m h =
     omega (arith, decimal-length x, simp length-append at (ap (λ (l : List ℕ). length l) (decimal-more x m h)))
 
 -- how long the lines can be
-pub pair-length : (a b : ℕ) → length (pairLine a b) ≤ 42
+pair-length : (a b : ℕ) → length (pairLine a b) ≤ 42
 unfolding pairLine
 pair-length a b = simp length-append (omega (arith, decimal-length a, decimal-length b))
 

@@ -49,7 +49,7 @@ module _ (image sheet row : List ℕ) where
     done-fit = rw (← done-lines) (lines-fit (call-printable image sheet row count e) (length (fits .index .terms)) (fits .queries) accepted)
 
   -- a buffer of 176,064 bytes has room for what is printed for any call
-  pub call-lines-fit : length (callLines image sheet row) ≤ 176064
+  call-lines-fit : length (callLines image sheet row) ≤ 176064
   call-lines-fit = by-said (call image sheet row .said) refl
     where
       by-said : (m : Judged ℕ) → call image sheet row .said ≡ m → length (callLines image sheet row) ≤ 176064

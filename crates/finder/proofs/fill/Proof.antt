@@ -19,20 +19,28 @@ abbrev μ-loop : tie.MeasureT-loop
 -- what is known of a record that was read, and of its stretch
 module _ (c : tie.After-read Inv-loop μ-loop) where
   asked : let a = c .before .before .before .before .before .before .args in Asked (a .image .now) (a .sheet .now) (c .read .result) (a .docs)
-  asked = let f = c .before .before .before .before .before .before .pre in going-asked f (c .before .before .loop .inv f) (c .before .loop-test .taken) (c .read .result) (c .read .ensures)
+  asked =
+      let f = c .before .before .before .before .before .before .pre in
+      going-asked f (c .before .before .loop .inv f) (c .before .loop-test .taken) (c .read .result) (c .read .ensures)
 
   room : c .before .before .loop .start + (3 + 2 * c .read .result .k) ≤ length (c .before .before .before .before .before .before .args .row .now)
-  room = let f = c .before .before .before .before .before .before .pre in going-room f (c .before .before .loop .inv f) (c .before .loop-test .taken) (c .read .result) (c .read .ensures)
+  room =
+      let f = c .before .before .before .before .before .before .pre in
+      going-room f (c .before .before .loop .inv f) (c .before .loop-test .taken) (c .read .result) (c .read .ensures)
 
 -- the answer row keeps its length
 kept : (c : tie.At-loop Inv-loop μ-loop) → length (c .loop .row) ≡ length (c .before .before .before .before .args .row .now)
-kept c = going-length (c .before .before .before .before .pre) (c .loop .inv (c .before .before .before .before .pre))
+kept c =
+    let f = c .before .before .before .before .pre in
+    going-length f (c .loop .inv f)
 
 loop-holds : tie.Need-loop-holds Inv-loop μ-loop
 loop-holds c = λ f. going-first f
 
 read-requires : tie.Need-read-requires Inv-loop μ-loop
-read-requires c κs = going-readable (c .before .before .before .before .before .pre) (c .before .loop .inv (c .before .before .before .before .before .pre)) (c .loop-test .taken)
+read-requires c κs =
+    let f = c .before .before .before .before .before .pre in
+    going-readable f (c .before .loop .inv f) (c .loop-test .taken)
 
 add-end : tie.Need-add-end Inv-loop μ-loop
 add-end c = omega (arith, room c)
@@ -56,25 +64,36 @@ part-answer-query-end : tie.Need-part-answer-query-end Inv-loop μ-loop
 part-answer-query-end c = omega (arith, room (c .before), kept (c .before .before .before))
 
 answer-query-requires : tie.Need-answer-query-requires Inv-loop μ-loop
-answer-query-requires c κs = (asked (c .before .before), simp (length-take, length-drop) (omega (arith, room (c .before .before), kept (c .before .before .before .before))))
+answer-query-requires c κs =
+    let long = kept (c .before .before .before .before) in
+    (asked (c .before .before), simp (length-take, length-drop) (omega (arith, room (c .before .before), long)))
 
 mul-at : tie.Need-mul-at Inv-loop μ-loop
-mul-at c = omega (arith, asked (c .before .before .before .before .before .before) .fits .all, asked (c .before .before .before .before .before .before) .fits .terms)
+mul-at c =
+    let r = asked (c .before .before .before .before .before .before) .fits in
+    omega (arith, r .all, r .terms)
 
 add-at : tie.Need-add-at Inv-loop μ-loop
-add-at c = omega (arith, asked (c .before .before .before .before .before .before .before) .fits .all, asked (c .before .before .before .before .before .before .before) .fits .terms)
+add-at c =
+    let r = asked (c .before .before .before .before .before .before .before) .fits in
+    omega (arith, r .all, r .terms)
 
 loop-less : tie.Need-loop-less Inv-loop μ-loop
 loop-less c = search needs
 
 loop-again : tie.Need-loop-again Inv-loop μ-loop
-loop-again c = λ f. going-next f (c .before .before .before .before .before .before .before .before .before .loop .inv f) (c .before .before .before .before .before .before .before .before .loop-test .taken) (c .before .before .before .before .before .before .before .read .result) (c .before .before .before .before .before .before .before .read .ensures) _ refl _ (c .before .before .before .before .answer-query .ensures)
+loop-again c = λ f.
+    let r = c .before .before .before .before .before .before .before in
+    going-next f (r .before .before .loop .inv f) (r .before .loop-test .taken) (r .read .result) (r .read .ensures) _ refl _
+    (c .before .before .before .before .answer-query .ensures)
 
 same-length : tie.Need-same-length Inv-loop μ-loop
 same-length c = kept (c .before)
 
 returns : tie.Need-returns Inv-loop μ-loop
-returns c = let f = c .before .before .before .before .before .pre in going-ends f (c .before .loop .inv f) (c .loop-test .left)
+returns c =
+    let f = c .before .before .before .before .before .pre in
+    going-ends f (c .before .loop .inv f) (c .loop-test .left)
 
 pub fill-spec : {M : Type 1} → statement M
 fill-spec =
