@@ -30,7 +30,8 @@ pub record Best (mode : Mode) (ms : List Mention) (k p found : ℕ) (row : ℕ �
   -- "every row matches, is below the place, and carries its true score"
   pub right : (i : ℕ) → i < found → (matches mode ms (row i .doc) ≡ true) × (row i .doc < p) × (row i .score ≡ score ms (row i .doc))
   -- "every matching document below the place that is not a row is outranked by every row, and there are then k rows"
-  pub rest : (d : ℕ) → d < p → matches mode ms d ≡ true → ((i : ℕ) → i < found → row i .doc ≡ d → ⊥) → (found ≡ k) × ((i : ℕ) → i < found → outranks (row i) (rowOf ms d) ≡ true)
+  pub rest : (d : ℕ) → d < p → matches mode ms d ≡ true → ((i : ℕ) → i < found → row i .doc ≡ d → ⊥) →
+      (found ≡ k) × ((i : ℕ) → i < found → outranks (row i) (rowOf ms d) ≡ true)
   -- "The rows found are the smaller of k and the number of matching documents below the place."
   pub count : found ≡ min k (matching mode ms p)
 

@@ -59,7 +59,8 @@ largest-one (p ∷ q ∷ ps) h = go (largest-one (q ∷ ps) (omega arith))
     go : One (q ∷ ps) → One (p ∷ q ∷ ps)
     go r = by-test (leb (largestOf (q ∷ ps)) (p .impact)) (λ y. (0, omega arith, omega (arith, leb-true))) (λ n. (suc (r .0), omega arith, omega (arith, leb-false)))
 
-sound-at : (N : ℕ) (xs : List Term) → Sound N xs → (t : ℕ) → t < length xs → Rising N 0 (getD xs t noTerm .postings) × (getD xs t noTerm .largest ≡ largestOf (getD xs t noTerm .postings))
+sound-at : (N : ℕ) (xs : List Term) → Sound N xs → (t : ℕ) → t < length xs →
+    Rising N 0 (getD xs t noTerm .postings) × (getD xs t noTerm .largest ≡ largestOf (getD xs t noTerm .postings))
 sound-at N [] f t h = absurd (omega arith)
 sound-at N (x ∷ xs) f zero h = (f .0, f .1)
 sound-at N (x ∷ xs) f (suc t) h = sound-at N xs (f .2) t (omega arith)

@@ -33,7 +33,8 @@ call-only image sheet row a b x y p q = (says-same a b (p .outcome-is ∙ sym (q
 
 -- "answers depend on index and query only (the same query on two sheets, and on two images that read as the same index, answers the same)"
 module _ (image image′ sheet sheet′ row row′ : List ℕ) {count count′ : ℕ} (f : CallFits image sheet row count) (f′ : CallFits image′ sheet′ row′ count′) where
-  pub same-answer : indexOf image ≡ indexOf image′ → (i j : ℕ) → i < length (f .queries) → j < length (f′ .queries) → (d : Query) → getD (f .queries) i d ≡ getD (f′ .queries) j d →
+  pub same-answer : indexOf image ≡ indexOf image′ → (i j : ℕ) → i < length (f .queries) → j < length (f′ .queries) → (d : Query) →
+      getD (f .queries) i d ≡ getD (f′ .queries) j d →
       stretch (f .queries) i d (call image sheet row .row) ≡ stretch (f′ .queries) j d (call image′ sheet′ row′ .row)
   same-answer e i j h k d q =
       let a = stretch-at image sheet row f i h d in

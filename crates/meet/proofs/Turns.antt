@@ -68,7 +68,8 @@ pub record Found (s : List ℕ) (d : ℕ) (ms : List Mention) (i : ℕ) (ns : Li
   pub stored : ns ≡ set ms i m
 
 -- all mentions lag
-all-aside : (s : List ℕ) (os : List sc.Mention) (q d : ℕ) (ms : List Mention) → length os ≡ q → ((x : ℕ) → x < length os → meant s (getD ms x none) ≡ getD os x noMention) → ((x : ℕ) → x < q → Lags s d (getD ms x none)) → Placed s os q q d ms
+all-aside : (s : List ℕ) (os : List sc.Mention) (q d : ℕ) (ms : List Mention) → length os ≡ q →
+    ((x : ℕ) → x < length os → meant s (getD ms x none) ≡ getD os x noMention) → ((x : ℕ) → x < q → Lags s d (getD ms x none)) → Placed s os q q d ms
 all-aside s os q d ms whole means lags =
     record { means = means; aside = lags; gone = λ x g h. absurd (omega arith); here = λ x g h. absurd (omega arith) }
 
@@ -282,11 +283,13 @@ module _ {s : List ℕ} {os : List sc.Mention} {bar q budget : ℕ} {run : Run} 
 
         pub passes : sum ≤ bar → Looping s os bar q budget run cost (past + 1) ms (count + cost) 0 0
         passes h =
-            let next : docOf (indexOf s .docs) (past + 1) ≡ suc (past - 1) = doc-some (indexOf s .docs) (past + 1) (λ z. omega (arith, here .at .most, here .at .ground .docs)) ∙ omega (arith, there) in
+            let next : docOf (indexOf s .docs) (past + 1) ≡ suc (past - 1) =
+            doc-some (indexOf s .docs) (past + 1) (λ z. omega (arith, here .at .most, here .at .ground .docs)) ∙ omega (arith, there) in
             record { paid = k .paid; least = omega arith; meeting = rw (next, k .paid) (fresh (passed here end (omega (arith, k .paid)) h)) }
 
 -- how the loop starts
-pub starts : {s : List ℕ} {ms : List Mention} {bar q budget past count cost : ℕ} → Meets s ms q past count → length ms ≡ 16 → cost ≡ q → Looping s (meantOf s q ms) bar q budget (meetBy s (meantOf s q ms) bar q budget past count) cost past ms count 0 0
+pub starts : {s : List ℕ} {ms : List Mention} {bar q budget past count cost : ℕ} → Meets s ms q past count → length ms ≡ 16 → cost ≡ q →
+    Looping s (meantOf s q ms) bar q budget (meetBy s (meantOf s q ms) bar q budget past count) cost past ms count 0 0
 starts {s} {ms} {q = q} {past = past} m long paid =
     let os = meantOf s q ms in
     let docs = m .lags 0 (m .some) .2 .sound .ready .few in
