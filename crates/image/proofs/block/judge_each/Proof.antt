@@ -12,8 +12,8 @@ use Rattle.meaning.specs.Image.{postingsAt}
 use Rattle.bits.specs.Parts.{from-field, from-length}
 use Rattle.image.specs.Answers.{keep, keptOf}
 use Rattle.image.specs.PostingLaws.{keptFrom, one-more, postings-start, postings-end, postings-turn}
-use Rattle.image.proofs.block.judge_postings.Statement.{statement}
-use Rattle.image.proofs.block.judge_postings.Tie as tie
+use Rattle.image.proofs.block.judge_each.Statement.{statement}
+use Rattle.image.proofs.block.judge_each.Tie as tie
 
 abbrev Inv-loop : tie.InvT-loop
 Inv-loop part docs w start first n at₀ next₀ top₀ left₀ at next top left =
@@ -119,8 +119,8 @@ returns-3 c t =
     let a = l .before .before .args in
     sym (postings-end (a .part .now) (a .docs) t (a .w) (l .loop .at) (l .loop .next) (l .loop .top) (l .loop .left) (omega arith)) ∙ l .loop .inv .2 t
 
-pub judge-postings-spec : {M : Type 1} → statement M
-judge-postings-spec =
+pub judge-each-spec : {M : Type 1} → statement M
+judge-each-spec =
     tie.close
     (tie.spec
     Inv-loop

@@ -1,0 +1,165 @@
+// A block's postings, several to a word: "per posting a gap of w bits and an impact of 8 bits". Words are read two at a time, and weighed side by side:
+// what all gaps come to, whether each impact is 1 to the block's largest, and whether one is the largest.
+ghost use mathlib.Core.Path.{_≡_};
+ghost use Prim.Native.Nat.{ℕ, _+_, _-_, _*_, _/_, _%_, _^_, _≤_, _<_, min};
+ghost use lib.ListN.{length};
+ghost use Rattle.meaning.specs.Bits.{bitsAt};
+ghost use Rattle.image.specs.Lanes.{Packs, sumLanes, sumAt, sumWords, onesOf};
+ghost use Rattle.image.specs.Gathering.{Filled, Weighs};
+
+// So many postings with gaps of w bits are read as one word.
+pub fn per_word(w: usize) -> usize
+    requires { ⌜ (0 < w) × (w ≤ 24) ⌝ }
+    ensures { λ r. ⌜ Packs w r ⌝ }
+{
+    if w < 4 {
+        return 5;
+    }
+    if w < 7 {
+        return 4;
+    }
+    if w < 12 {
+        return 3;
+    }
+    if w < 21 {
+        return 2;
+    }
+    1
+}
+
+// A 1 in the lowest bit of each posting of a word.
+pub fn ones_of(stride: usize, k: usize) -> u64
+    requires { ⌜ (0 < stride) × (stride ≤ 32) × (k * stride ≤ 57) ⌝ }
+    ensures { λ r. ⌜ r ≡ onesOf stride k ⌝ }
+{
+    let mut ones: u64 = 0;
+    let mut i: usize = 0;
+    while i < k {
+        ones = (ones << stride) + 1;
+        i += 1;
+    }
+    ones
+}
+
+// The 57 bits from bit `at` on, below what stands before them in their byte.
+fn word_at(part: &[u8], at: usize) -> u64
+    requires { ⌜ (length (now part) < 16777216) × (at + 57 ≤ 8 * length (now part)) ⌝ }
+    ensures { λ r. ⌜ r % 2 ^ 57 ≡ bitsAt (now (part .entry)) at 57 ⌝ }
+{
+    let byte = at / 8;
+    bits::first(&part[byte..], 57 + at % 8)
+}
+
+// The words of k postings each from bit `start` on, two at a time.
+fn fill(part: &[u8], start: usize, stride: usize, k: usize, pairs: usize, room: &mut [u64])
+    requires { ⌜ (length (now part) < 16777216) × (k * stride ≤ 57) × (57 ≤ start + k * stride) × (2 * pairs ≤ length (now room)) × (start + 2 * pairs * (k * stride) ≤ 8 * length (now part)) ⌝ }
+    ensures { λ r. ⌜ ((f : ℕ → ℕ) → sumWords f stride k (now (room .exit)) (2 * pairs) ≡ sumAt f (now (part .entry)) stride start (2 * pairs * k)) ⌝ }
+{
+    let step = k * stride;
+    let mut at = start + step - 57;
+    let mut i: usize = 0;
+    while i < pairs {
+        let a = word_at(part, at);
+        let b = word_at(part, at + step);
+        room[2 * i] = a;
+        room[2 * i + 1] = b;
+        at += 2 * step;
+        i += 1;
+    }
+}
+
+// The word of the r postings from bit `at` on, with an impact of 1 and no gap for each of the k that is not there.
+fn rest_word(part: &[u8], at: usize, stride: usize, k: usize, r: usize, ones: u64) -> u64
+    requires { ⌜ (0 < stride) × (r ≤ k) × (k * stride ≤ 57) × (at + r * stride ≤ 8 * length (now part)) × (length (now part) < 16777216) × (ones ≡ onesOf stride k) ⌝ }
+    ensures { λ x. ⌜ ((f : ℕ → ℕ) → sumLanes f stride x k ≡ sumAt f (now (part .entry)) stride at r + (k - r) * f 1) ⌝ }
+{
+    let cut = r * stride;
+    let byte = at / 8;
+    bits::field(&part[byte..], at % 8, cut) + (ones >> cut << cut)
+}
+
+fn smaller(a: usize, b: usize) -> usize
+    ensures { λ r. ⌜ r ≡ min a b ⌝ }
+{
+    if a < b { a } else { b }
+}
+
+// The n postings from bit `start` on, as words of k each; what is given is the number of words.
+pub fn read_words(
+    part: &[u8],
+    start: usize,
+    stride: usize,
+    k: usize,
+    n: usize,
+    ones: u64,
+    room: &mut [u64],
+) -> usize
+    requires { ⌜ (length (now part) < 16777216) × (0 < stride) × (0 < k) × (k ≤ 5) × (k * stride ≤ 57) × (57 ≤ start + k * stride) × (n ≤ 128) × (length (now room) ≡ 128) × (start + n * stride ≤ 8 * length (now part)) × (ones ≡ onesOf stride k) ⌝ }
+    ensures { λ r. ⌜ Filled (now (part .entry)) stride k start n (now (room .exit)) r ⌝ }
+{
+    let pairs = n / (2 * k);
+    fill(part, start, stride, k, pairs, room);
+    let done = 2 * pairs;
+    let left = n - done * k;
+    if left == 0 {
+        return done;
+    }
+    let at = start + done * (k * stride);
+    let near = smaller(left, k);
+    room[done] = rest_word(part, at, stride, k, near, ones);
+    room[done + 1] = rest_word(part, at + near * stride, stride, k, left - near, ones);
+    done + 2
+}
+
+// What the lanes of a word come to, where 8 bits stand below each.
+fn total(gaps: u64, stride: usize, k: usize) -> u64
+    requires { ⌜ (stride ≤ 32) × (k ≤ 5) ⌝ }
+    ensures { λ r. ⌜ (r ≡ sumLanes (λ y. y) stride (gaps / 256) k) × (r ≤ 21474836480) ⌝ }
+{
+    let lane: u64 = 1 << stride;
+    let mut sum: u64 = 0;
+    let mut rest = gaps / 256;
+    let mut i: usize = 0;
+    while i < k {
+        sum += rest % lane;
+        rest = rest >> stride;
+        i += 1;
+    }
+    sum
+}
+
+// What weighing a block's words says: the sum of the gaps; `bad` is 0 only where each impact is 1 to the largest, and `hit` above 0 only where one is the largest.
+pub struct Weight {
+    pub gaps: u64,
+    pub bad: u64,
+    pub hit: u64,
+}
+
+// The first `count` words of a row, of k postings each; `largest` is the impact that the block's head has. Above each impact one bit is left to tell.
+pub fn weigh(row: &[u64], count: usize, w: usize, k: usize, ones: u64, largest: u64) -> Weight
+    requires { ⌜ (count ≤ 128) × (count ≤ length (now row)) × (0 < w) × (w ≤ 24) × (Packs w k) × (ones ≡ onesOf (w + 8) k) × (largest ≤ 255) ⌝ }
+    ensures { λ r. ⌜ Weighs w k largest (now (row .entry)) count (r .gaps) (r .bad) (r .hit) ⌝ }
+{
+    let gap = ((1 << w) - 1) * 256 * ones;
+    let impact = 255 * ones;
+    let guard = 256 * ones;
+    let above = (255 - largest) * ones;
+    let equal = (256 - largest) * ones;
+    let mut gaps: u64 = 0;
+    let mut bad: u64 = 0;
+    let mut hit: u64 = 0;
+    let mut i: usize = 0;
+    while i < count {
+        let v = row[i];
+        let m = v & impact;
+        gaps = gaps + (v & gap);
+        bad = bad | (m + above) | (guard - m);
+        hit = hit | (m + equal);
+        i += 1;
+    }
+    Weight {
+        gaps: total(gaps, w + 8, k),
+        bad: bad & guard,
+        hit: hit & guard,
+    }
+}
