@@ -149,24 +149,24 @@ rest-sum f s S at r p h =
     ∙ lanes-above f S (onesOf S p) (bitsAt s at (r * S)) r p (bits-lt s at (r * S))
     ∙ rw (lanes-field f s S at r, lanes-ones f S p h)
 
-pub words-none : (f : ℕ → ℕ) (s : List ℕ) (S k start : ℕ) (row : List ℕ) → sumWords f S k row (2 * 0) ≡ sumAt f s S start (2 * 0 * k)
+pub words-none : (f : ℕ → ℕ) (s : List ℕ) (S k start other : ℕ) (row : List ℕ) → sumWords f S k row (2 * 0) ≡ sumAt f s S start (0 * k) + sumAt f s S other (0 * k)
 unfolding sumWords sumAt
-words-none f s S k start row = let e : 2 * 0 * k ≡ 0 = omega arith in rw e
+words-none f s S k start other row = let e : 0 * k ≡ 0 = omega arith in rw e
 
--- two words more, of k fields each
+-- two words more of k fields each, in two rows of fields
 pub words-pair :
-    (f : ℕ → ℕ) (s : List ℕ) (S k start : ℕ) (row : List ℕ) (i a b : ℕ) → 2 * i + 1 < length row →
-    sumLanes f S a k ≡ sumAt f s S (start + 2 * i * (k * S)) k → sumLanes f S b k ≡ sumAt f s S (start + (2 * i + 1) * (k * S)) k →
-    sumWords f S k row (2 * i) ≡ sumAt f s S start (2 * i * k) →
-    sumWords f S k (set (set row (2 * i) a) (2 * i + 1) b) (2 * (i + 1)) ≡ sumAt f s S start (2 * (i + 1) * k)
-words-pair f s S k start row i a b h p q e =
+    (f : ℕ → ℕ) (s : List ℕ) (S k start other : ℕ) (row : List ℕ) (i a b : ℕ) → 2 * i + 1 < length row →
+    sumLanes f S a k ≡ sumAt f s S (start + i * (k * S)) k → sumLanes f S b k ≡ sumAt f s S (other + i * (k * S)) k →
+    sumWords f S k row (2 * i) ≡ sumAt f s S start (i * k) + sumAt f s S other (i * k) →
+    sumWords f S k (set (set row (2 * i) a) (2 * i + 1) b) (2 * (i + 1)) ≡ sumAt f s S start ((i + 1) * k) + sumAt f s S other ((i + 1) * k)
+words-pair f s S k start other row i a b h p q e =
     let n : 2 * (i + 1) ≡ 2 * i + 1 + 1 = omega arith in
-    let m : 2 * (i + 1) * k ≡ 2 * i * k + k + k = omega arith in
-    let there : start + 2 * i * k * S ≡ start + 2 * i * (k * S) = omega arith in
-    let then : start + (2 * i * k + k) * S ≡ start + (2 * i + 1) * (k * S) = omega arith in
+    let m : (i + 1) * k ≡ i * k + k = omega arith in
+    let here : start + i * k * S ≡ start + i * (k * S) = omega arith in
+    let there : other + i * k * S ≡ other + i * (k * S) = omega arith in
     let len : length (set row (2 * i) a) ≡ length row = length-set row (2 * i) a in
-    rw (m, sum-append f s S start (2 * i * k + k) k, sum-append f s S start (2 * i * k) k, there, then, ← p, ← q, ← e)
-    (rw (n, words-more f S k (set row (2 * i) a) (2 * i + 1) b (omega arith), words-more f S k row (2 * i) a (omega arith)))
+    rw (m, sum-append f s S start (i * k) k, sum-append f s S other (i * k) k, here, there, ← p, ← q, n, words-more f S k (set row (2 * i) a) (2 * i + 1) b (omega arith), words-more f S k row (2 * i) a (omega arith), e)
+    (omega arith)
 
 -- one lane more with a 1: nothing is shifted out
 pub record Longer (S i : ℕ) : Type 0 where
@@ -197,32 +197,15 @@ pub lanes-none : (f : ℕ → ℕ) (S x n : ℕ) → n ≡ 0 → sumLanes f S x 
 unfolding sumLanes
 lanes-none f S x n z = rw z
 
--- n fields by words of k, two at a time: p pairs, and what is left is less than two words
-pub record Paired (n k p : ℕ) : Type 0 where
-  pub whole : 2 * p * k ≤ n
-  pub rest : n < 2 * p * k + 2 * k
-  pub few : 2 * p ≤ 2 * p * k
+-- h fields by words of k: p words, and what is left is less than a word
+pub record Shared (h k p : ℕ) : Type 0 where
+  pub whole : p * k ≤ h
+  pub rest : h < p * k + k
+  pub few : p ≤ p * k
 
-pub paired : (n k : ℕ) → 0 < k → Paired n k (n / (2 * k))
-paired n k h =
-    let p = n / (2 * k) in
-    let e : p * (2 * k) + n % (2 * k) ≡ n = div-add-mod' n (2 * k) in
-    let l : n % (2 * k) < 2 * k = mod-lt n (omega arith) in
-    record { whole = omega arith; rest = omega arith; few = omega (arith, mul-le-mul-left (2 * p) h) }
-
--- two words more, with a stand-in of 1 for each field that is not there
-pub words-rest :
-    (f : ℕ → ℕ) (s : List ℕ) (S k start n : ℕ) (row : List ℕ) (d a b near far pad : ℕ) → d + 1 < length row → n ≡ d * k + near + far → k + k ≡ near + far + pad →
-    near ≤ k → far ≤ k →
-    sumWords f S k row d ≡ sumAt f s S start (d * k) →
-    sumLanes f S a k ≡ sumAt f s S (start + d * (k * S)) near + (k - near) * f 1 →
-    sumLanes f S b k ≡ sumAt f s S (start + d * (k * S) + near * S) far + (k - far) * f 1 →
-    sumWords f S k (set (set row d a) (d + 1) b) (d + 2) ≡ sumAt f s S start n + pad * f 1
-words-rest f s S k start n row d a b near far pad h all more l m e p q =
-    let two : d + 2 ≡ d + 1 + 1 = omega arith in
-    let there : start + d * k * S ≡ start + d * (k * S) = omega arith in
-    let then : start + (d * k + near) * S ≡ start + d * (k * S) + near * S = omega arith in
-    let len : length (set row d a) ≡ length row = length-set row d a in
-    let lacking : pad ≡ (k - near) + (k - far) = omega arith in
-    rw (all, sum-append f s S start (d * k + near) far, sum-append f s S start (d * k) near, there, then, lacking)
-    (rw (two, words-more f S k (set row d a) (d + 1) b (omega arith), words-more f S k row d a (omega arith), e, p, q) (omega arith))
+pub shared : (h k : ℕ) → 0 < k → Shared h k (h / k)
+shared h k some =
+    let p = h / k in
+    let e : p * k + h % k ≡ h = div-add-mod' h k in
+    let l : h % k < k = mod-lt h some in
+    record { whole = omega arith; rest = omega arith; few = omega (arith, mul-le-mul-left p some) }

@@ -12,7 +12,7 @@ ghost use Rattle.image.specs.Answers.{keep, keptOf, postingsSay, Sure, t
 ghost use Rattle.image.specs.BlockLaws.{Words};
 
 // Fewer postings are sooner judged one by one.
-const FEW: usize = 12;
+const FEW: usize = 16;
 
 // What judging a block's postings says.
 pub enum Postings {

@@ -5,7 +5,7 @@ ghost use Prim.Native.Nat.{ℕ, _+_, _-_, _*_, _/_, _%_, _^_, _≤_, _<_, min};
 ghost use lib.ListN.{length};
 ghost use Rattle.meaning.specs.Bits.{bitsAt};
 ghost use Rattle.image.specs.Lanes.{Packs, sumLanes, sumAt, sumWords, onesOf};
-ghost use Rattle.image.specs.Gathering.{Filled, Weighs};
+ghost use Rattle.image.specs.Gathering.{Added, Filled, Weighs};
 
 // So many postings with gaps of w bits are read as one word.
 pub fn per_word(w: usize) -> usize
@@ -41,29 +41,37 @@ pub fn ones_of(stride: usize, k: usize) -> u64
     ones
 }
 
-// The 57 bits from bit `at` on, below what stands before them in their byte.
-fn word_at(part: &[u8], at: usize) -> u64
-    requires { ⌜ (length (now part) < 16777216) × (at + 57 ≤ 8 * length (now part)) ⌝ }
-    ensures { λ r. ⌜ r % 2 ^ 57 ≡ bitsAt (now (part .entry)) at 57 ⌝ }
+// The 57 bits from bit `shift` of byte `byte` on, below what stands before them in their byte.
+fn word_at(part: &[u8], byte: usize, shift: usize) -> u64
+    requires { ⌜ (shift < 8) × (length (now part) < 16777216) × (8 * byte + shift + 57 ≤ 8 * length (now part)) ⌝ }
+    ensures { λ r. ⌜ r % 2 ^ 57 ≡ bitsAt (now (part .entry)) (8 * byte + shift) 57 ⌝ }
 {
-    let byte = at / 8;
-    bits::first(&part[byte..], 57 + at % 8)
+    bits::first(&part[byte..], 57 + shift)
 }
 
-// The words of k postings each from bit `start` on, two at a time.
-fn fill(part: &[u8], start: usize, stride: usize, k: usize, pairs: usize, room: &mut [u64])
-    requires { ⌜ (length (now part) < 16777216) × (k * stride ≤ 57) × (57 ≤ start + k * stride) × (2 * pairs ≤ length (now room)) × (start + 2 * pairs * (k * stride) ≤ 8 * length (now part)) ⌝ }
-    ensures { λ r. ⌜ ((f : ℕ → ℕ) → sumWords f stride k (now (room .exit)) (2 * pairs) ≡ sumAt f (now (part .entry)) stride start (2 * pairs * k)) ⌝ }
+// Words of k postings each, two at a time: those from bit `start` on, and those `far` bytes later. Both begin at the same bit of a byte.
+fn fill(
+    part: &[u8],
+    start: usize,
+    stride: usize,
+    k: usize,
+    far: usize,
+    pairs: usize,
+    room: &mut [u64],
+)
+    requires { ⌜ (length (now part) < 16777216) × (k * stride ≤ 57) × (57 ≤ start + k * stride) × (2 * pairs ≤ length (now room)) × (start + 8 * far + pairs * (k * stride) ≤ 8 * length (now part)) ⌝ }
+    ensures { λ r. ⌜ ((f : ℕ → ℕ) → sumWords f stride k (now (room .exit)) (2 * pairs) ≡ sumAt f (now (part .entry)) stride start (pairs * k) + sumAt f (now (part .entry)) stride (start + 8 * far) (pairs * k)) ⌝ }
 {
     let step = k * stride;
     let mut at = start + step - 57;
     let mut i: usize = 0;
     while i < pairs {
-        let a = word_at(part, at);
-        let b = word_at(part, at + step);
+        let byte = at / 8;
+        let a = word_at(part, byte, at % 8);
+        let b = word_at(part, byte + far, at % 8);
         room[2 * i] = a;
         room[2 * i + 1] = b;
-        at += 2 * step;
+        at += step;
         i += 1;
     }
 }
@@ -84,7 +92,35 @@ fn smaller(a: usize, b: usize) -> usize
     if a < b { a } else { b }
 }
 
-// The n postings from bit `start` on, as words of k each; what is given is the number of words.
+// The n postings from bit `start` on as words of k each, the last one of fewer, from word `done` of the row on; what is given is the number of words then.
+fn fill_rest(
+    part: &[u8],
+    start: usize,
+    stride: usize,
+    k: usize,
+    n: usize,
+    ones: u64,
+    done: usize,
+    room: &mut [u64],
+) -> usize
+    requires { ⌜ (length (now part) < 16777216) × (0 < stride) × (0 < k) × (k * stride ≤ 57) × (done + n ≤ length (now room)) × (start + n * stride ≤ 8 * length (now part)) × (ones ≡ onesOf stride k) ⌝ }
+    ensures { λ r. ⌜ (r ≤ done + n) × Added (now (part .entry)) stride k start n (now (room .entry)) done (now (room .exit)) r ⌝ }
+{
+    let mut at = start;
+    let mut left = n;
+    let mut i = done;
+    while 0 < left {
+        let r = smaller(left, k);
+        room[i] = rest_word(part, at, stride, k, r, ones);
+        at += r * stride;
+        left -= r;
+        i += 1;
+    }
+    i
+}
+
+// The n postings from bit `start` on as words of k each; what is given is the number of words. Eight postings take whole bytes, so that two halves of 8m postings are
+// read side by side, then what is left of both, and what comes after them.
 pub fn read_words(
     part: &[u8],
     start: usize,
@@ -97,18 +133,25 @@ pub fn read_words(
     requires { ⌜ (length (now part) < 16777216) × (0 < stride) × (0 < k) × (k ≤ 5) × (k * stride ≤ 57) × (57 ≤ start + k * stride) × (n ≤ 128) × (length (now room) ≡ 128) × (start + n * stride ≤ 8 * length (now part)) × (ones ≡ onesOf stride k) ⌝ }
     ensures { λ r. ⌜ Filled (now (part .entry)) stride k start n (now (room .exit)) r ⌝ }
 {
-    let pairs = n / (2 * k);
-    fill(part, start, stride, k, pairs, room);
-    let done = 2 * pairs;
-    let left = n - done * k;
-    if left == 0 {
-        return done;
-    }
-    let at = start + done * (k * stride);
-    let near = smaller(left, k);
-    room[done] = rest_word(part, at, stride, k, near, ones);
-    room[done + 1] = rest_word(part, at + near * stride, stride, k, left - near, ones);
-    done + 2
+    let m = n / 16;
+    let half = 8 * m;
+    let far = m * stride;
+    let pairs = half / k;
+    fill(part, start, stride, k, far, pairs, room);
+    let rest = half - pairs * k;
+    let at = start + pairs * k * stride;
+    let near = fill_rest(part, at, stride, k, rest, ones, 2 * pairs, room);
+    let both = fill_rest(part, at + 8 * far, stride, k, rest, ones, near, room);
+    fill_rest(
+        part,
+        start + 16 * far,
+        stride,
+        k,
+        n - 2 * half,
+        ones,
+        both,
+        room,
+    )
 }
 
 // What the lanes of a word come to, where 8 bits stand below each.

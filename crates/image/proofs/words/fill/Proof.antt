@@ -1,5 +1,5 @@
--- Two words more each turn: sums over the lanes of the words so far are sums over their postings.
-use Prim.Native.Nat.{ℕ, _+_, _-_, _*_, _%_, _^_, _≤_}
+-- Two words more each turn, one in each half: sums over the lanes of the words so far are sums over their postings.
+use Prim.Native.Nat.{ℕ, _+_, _-_, _*_, _/_, _%_, _^_, _≤_}
 use mathlib.Core.Path.{_≡_, refl, ap, _∙_}
 use native.Mathlib.Nat.{mul-le-mul-right}
 use native.Mathlib.Omega.{arith}
@@ -11,34 +11,33 @@ use Rattle.image.proofs.words.fill.Statement.{statement}
 use Rattle.image.proofs.words.fill.Tie as tie
 
 abbrev Inv-loop : tie.InvT-loop
-Inv-loop part start stride k pairs room₀ step at₀ i₀ room at i =
+Inv-loop part start stride k far pairs room₀ step at₀ i₀ room at i =
     (i ≤ pairs)
-    × (at + 57 ≡ start + (2 * i + 1) * (k * stride))
+    × (at + 57 ≡ start + (i + 1) * (k * stride))
     × (length room ≡ length room₀)
-    × ((f : ℕ → ℕ) → sumWords f stride k room (2 * i) ≡ sumAt f part stride start (2 * i * k))
+    × ((f : ℕ → ℕ) → sumWords f stride k room (2 * i) ≡ sumAt f part stride start (i * k) + sumAt f part stride (start + 8 * far) (i * k))
 
 abbrev μ-loop : tie.MeasureT-loop
-μ-loop part start stride k pairs room₀ step at₀ i₀ room at i = pairs - i
+μ-loop part start stride k far pairs room₀ step at₀ i₀ room at i = pairs - i
 
--- two words more are there
+-- a word more is there in either half
 there : (c : tie.In-loop Inv-loop μ-loop) →
     let a = c .before .before .before .before .args in
-    c .before .loop .at + 57 + a .k * a .stride ≤ 8 * length (a .part .now)
+    c .before .loop .at + 57 + 8 * a .far ≤ 8 * length (a .part .now)
 there c =
     let a = c .before .before .before .before .args in
-    let l : 2 * c .before .loop .i + 2 ≤ 2 * a .pairs = omega arith in
-    omega (arith, mul-le-mul-right (a .k * a .stride) l)
+    omega (arith, mul-le-mul-right (a .k * a .stride) (c .loop-test .taken))
 
--- the lanes of a word
+-- the lanes of a word of the half that begins at bit b
 lanes :
-    (c : tie.In-loop Inv-loop μ-loop) (f : ℕ → ℕ) (j at x : ℕ) →
+    (c : tie.In-loop Inv-loop μ-loop) (f : ℕ → ℕ) (b at bit x : ℕ) →
     let a = c .before .before .before .before .args in
-    at + 57 ≡ a .start + (j + 1) * (a .k * a .stride) → x % 2 ^ 57 ≡ bitsAt (a .part .now) at 57 →
-    sumLanes f (a .stride) x (a .k) ≡ sumAt f (a .part .now) (a .stride) (a .start + j * (a .k * a .stride)) (a .k)
-lanes c f j at x e h =
+    at + 57 ≡ b + (c .before .loop .i + 1) * (a .k * a .stride) → bit ≡ at → x % 2 ^ 57 ≡ bitsAt (a .part .now) bit 57 →
+    sumLanes f (a .stride) x (a .k) ≡ sumAt f (a .part .now) (a .stride) (b + c .before .loop .i * (a .k * a .stride)) (a .k)
+lanes c f b at bit x e q h =
     let a = c .before .before .before .before .args in
-    let first : at + (57 - a .k * a .stride) ≡ a .start + j * (a .k * a .stride) = omega arith in
-    word-sum f (a .part .now) (a .stride) (a .k) at x (omega arith) h ∙ ap (λ (i : ℕ). sumAt f (a .part .now) (a .stride) i (a .k)) first
+    let first : bit + (57 - a .k * a .stride) ≡ b + c .before .loop .i * (a .k * a .stride) = omega arith in
+    word-sum f (a .part .now) (a .stride) (a .k) bit x (omega arith) h ∙ ap (λ (i : ℕ). sumAt f (a .part .now) (a .stride) i (a .k)) first
 
 mul-step : tie.Need-mul-step Inv-loop μ-loop
 mul-step c = search needs
@@ -52,7 +51,7 @@ sub-at c = search needs
 loop-holds : tie.Need-loop-holds Inv-loop μ-loop
 loop-holds c =
     let a = c .before .before .args in
-    (omega arith, omega arith, refl, λ f. words-none f (a .part .now) (a .stride) (a .k) (a .start) _)
+    (omega arith, omega arith, refl, λ f. words-none f (a .part .now) (a .stride) (a .k) (a .start) (a .start + 8 * a .far) _)
 
 word-at-requires : tie.Need-word-at-requires Inv-loop μ-loop
 word-at-requires c κs = omega (arith, there c)
@@ -86,9 +85,6 @@ slice-write-room-2 c =
     let l = c .before .before .before in
     omega (arith, length-set (l .loop .room) (2 * l .loop .i) (c .before .word-at .result))
 
-mul-at : tie.Need-mul-at Inv-loop μ-loop
-mul-at c = search needs
-
 add-at-2 : tie.Need-add-at-2 Inv-loop μ-loop
 add-at-2 c = omega (arith, there (c .before .before))
 
@@ -103,13 +99,14 @@ loop-again c =
     let d = c .before .before in
     let l = d .before in
     let a = l .before .before .before .args in
-    let i = l .loop .i in (
+    let i = l .loop .i in
+    let at = l .loop .at in (
       omega arith,
       omega arith,
       search needs,
-      λ f. words-pair f (a .part .now) (a .stride) (a .k) (a .start) (l .loop .room) i (c .before .word-at .result) (c .word-at2 .result) (omega arith)
-          (lanes d f (2 * i) (l .loop .at) (c .before .word-at .result) (omega arith) (c .before .word-at .ensures))
-          (lanes d f (2 * i + 1) (l .loop .at + a .k * a .stride) (c .word-at2 .result) (omega arith) (c .word-at2 .ensures))
+      λ f. words-pair f (a .part .now) (a .stride) (a .k) (a .start) (a .start + 8 * a .far) (l .loop .room) i (c .before .word-at .result) (c .word-at2 .result) (omega arith)
+          (lanes d f (a .start) at (8 * (at / 8) + at % 8) (c .before .word-at .result) (omega arith) (omega arith) (c .before .word-at .ensures))
+          (lanes d f (a .start + 8 * a .far) (at + 8 * a .far) (8 * (at / 8 + a .far) + at % 8) (c .word-at2 .result) (omega arith) (omega arith) (c .word-at2 .ensures))
           (l .loop .inv .3 f),
     )
 
@@ -143,7 +140,6 @@ fill-spec =
     add-room
     mul-room-4
     slice-write-room-2
-    mul-at
     add-at-2
     add-i
     loop-less

@@ -1,24 +1,77 @@
--- Pairs of whole words, then two words for what is left.
-use Prim.Native.Nat.{ℕ, _+_, _-_, _*_, _/_, _≤_, _<_}
-use mathlib.Core.Path.{_≡_, refl, sym, ap, _∙_}
-use native.Mathlib.Nat.{mul-le-mul-right}
-use native.Mathlib.Omega.{arith}
-use lib.ListN.{length, length-set}
-use borrow.Author.Needs.{needs}
+-- The two halves side by side, what is left of each, and what comes after them.
+use Prim.Native.Nat.{ℕ, _+_, _-_, _*_, _/_, _≤_}
+use mathlib.Core.Path.{_≡_, sym, ap, _∙_}
 use mathlib.Core.List.{List}
-use Rattle.image.specs.Lanes.{sumAt, Paired, paired, words-rest}
+use native.Mathlib.Omega.{arith}
+use lib.ListN.{length}
+use borrow.Author.Needs.{needs}
+use Rattle.image.specs.Lanes.{sumAt, Shared, shared}
+use Rattle.image.specs.Gathering.{Added, filled}
 use Rattle.image.proofs.words.read_words.Statement.{statement}
 use Rattle.image.proofs.words.read_words.Tie as tie
 
--- the pairs, and the bits that they take
-split : (s : tie.Start) → Paired (s .args .n) (s .args .k) (s .args .n / (2 * s .args .k))
-split s = paired (s .args .n) (s .args .k) (s .pre .2)
+-- the postings of a half, its whole words, and the postings left of it
+abbrev half : tie.Start → ℕ
+half s = 8 * (s .args .n / 16)
 
-bits : (s : tie.Start) → 2 * (s .args .n / (2 * s .args .k)) * s .args .k * s .args .stride ≤ s .args .n * s .args .stride
-bits s = mul-le-mul-right (s .args .stride) (split s .whole)
+abbrev pairs : tie.Start → ℕ
+pairs s = half s / s .args .k
 
-mul-pairs : tie.Need-mul-pairs
-mul-pairs c = search needs
+abbrev left : tie.Start → ℕ
+left s = half s - pairs s * s .args .k
+
+split : (s : tie.Start) → Shared (half s) (s .args .k) (pairs s)
+split s = shared (half s) (s .args .k) (s .pre .2)
+
+-- the bits that they take
+record Bits (s : tie.Start) : Type 0 where
+  one : half s * s .args .stride ≡ pairs s * s .args .k * s .args .stride + left s * s .args .stride
+  all : s .args .n * s .args .stride ≡ half s * s .args .stride + half s * s .args .stride + (s .args .n - 2 * half s) * s .args .stride
+
+bits : (s : tie.Start) → Bits s
+bits s =
+    let a = s .args in
+    let w = split s .whole in
+    let h : half s ≡ pairs s * a .k + left s = omega arith in
+    let n : a .n ≡ half s + half s + (a .n - 2 * half s) = omega arith in
+    record {
+      one = ap (λ (x : ℕ). x * a .stride) h ∙ omega arith;
+      all = ap (λ (x : ℕ). x * a .stride) n ∙ omega arith;
+    }
+
+-- the row after the halves, after what is left of the first, of the second, and at the end
+abbrev halves : tie.After-slice-known2 → tie.Start
+halves c = c .before .before .before .before .before .before
+
+abbrev near : tie.After-slice-known3 → tie.Start
+near c = halves (c .before .before .before .before)
+
+abbrev both : tie.After-slice-known4 → tie.Start
+both c = near (c .before .before .before .before)
+
+abbrev row2 : tie.After-slice-known2 → List ℕ
+row2 c = c .before .before .fill .last .1 .1 .1 .1 .1 .1 .0
+
+abbrev row3 : tie.After-slice-known3 → List ℕ
+row3 c = c .before .before .fill-rest .last .1 .1 .1 .1 .1 .1 .1 .0
+
+abbrev row4 : tie.After-slice-known4 → List ℕ
+row4 c = c .before .before .fill-rest2 .last .1 .1 .1 .1 .1 .1 .1 .0
+
+long2 : (c : tie.After-slice-known2) → length (row2 c) ≡ 128
+long2 c = c .before .before .fill .kept .1 .1 .1 .1 .1 .1 .0 ∙ halves c .pre .7
+
+long3 : (c : tie.After-slice-known3) → length (row3 c) ≡ 128
+long3 c = c .before .before .fill-rest .kept .1 .1 .1 .1 .1 .1 .1 .0 ∙ long2 (c .before .before .before .before)
+
+long4 : (c : tie.After-slice-known4) → length (row4 c) ≡ 128
+long4 c = c .before .before .fill-rest2 .kept .1 .1 .1 .1 .1 .1 .1 .0 ∙ long3 (c .before .before .before .before)
+
+mul-half : tie.Need-mul-half
+mul-half c = search needs
+
+mul-far : tie.Need-mul-far
+mul-far c = omega (arith, bits (c .before .before))
 
 div-pairs : tie.Need-div-pairs
 div-pairs c = search needs
@@ -28,158 +81,107 @@ fill-requires c κs =
     let s = c .before .before .before in
     omega (arith, split s, bits s)
 
-mul-done : tie.Need-mul-done
-mul-done c = omega (arith, split (c .before .before .before .before .before .before))
+mul-rest : tie.Need-mul-rest
+mul-rest c = omega (arith, split (halves c))
 
-mul-left : tie.Need-mul-left
-mul-left c = omega (arith, split (c .before .before .before .before .before .before))
+sub-rest : tie.Need-sub-rest
+sub-rest c = omega (arith, split (halves c))
 
-sub-left : tie.Need-sub-left
-sub-left c = omega (arith, split (c .before .before .before .before .before .before))
+mul-at : tie.Need-mul-at
+mul-at c = omega (arith, split (halves c))
 
-abbrev start : tie.After-slice-known2 → tie.Start
-start c = c .before .before .before .before .before .before
+mul-at-2 : tie.Need-mul-at-2
+mul-at-2 c = omega (arith, bits (halves c))
 
--- the row after the pairs
-abbrev row : tie.After-slice-known2 → List ℕ
-row c = c .before .before .fill .last .1 .1 .1 .1 .1 .0
+add-at : tie.Need-add-at
+add-at c = omega (arith, bits (halves c))
 
-long : (c : tie.After-slice-known2) → length (row c) ≡ 128
-long c = c .before .before .fill .kept .1 .1 .1 .1 .1 .0 ∙ start c .pre .7
+mul-fill-rest : tie.Need-mul-fill-rest
+mul-fill-rest c = omega (arith, split (halves c))
 
-abbrev done : tie.Start → ℕ
-done s = 2 * (s .args .n / (2 * s .args .k))
+fill-rest-requires : tie.Need-fill-rest-requires
+fill-rest-requires c κs =
+    let k = c .before in
+    let s = halves k in
+    (s .pre .0, s .pre .1, s .pre .2, s .pre .4, omega (arith, split s, long2 k), omega (arith, bits s), s .pre .9)
 
-abbrev left : tie.Start → ℕ
-left s = s .args .n - done s * s .args .k
+mul-fill-rest-2 : tie.Need-mul-fill-rest-2
+mul-fill-rest-2 c = omega (arith, bits (near c))
 
--- m of the postings that are left are there
-there : (s : tie.Start) (m : ℕ) → m ≤ left s → s .args .start + done s * (s .args .k * s .args .stride) + m * s .args .stride ≤ 8 * length (s .args .part .now)
-there s m l =
-    let a = s .args in
-    let e : a .n ≡ done s * a .k + left s = omega (arith, split s) in
-    omega (arith, ap (λ (x : ℕ). x * a .stride) e, mul-le-mul-right (a .stride) l)
+add-fill-rest : tie.Need-add-fill-rest
+add-fill-rest c = omega (arith, bits (near c))
+
+fill-rest-requires-2 : tie.Need-fill-rest-requires-2
+fill-rest-requires-2 c κs =
+    let k = c .before in
+    let s = near k in
+    let few = k .before .before .fill-rest .ensures .0 in
+    (s .pre .0, s .pre .1, s .pre .2, s .pre .4, omega (arith, split s, long3 k), omega (arith, bits s), s .pre .9)
+
+mul-fill-rest-3 : tie.Need-mul-fill-rest-3
+mul-fill-rest-3 c = omega (arith, bits (both c))
+
+add-fill-rest-2 : tie.Need-add-fill-rest-2
+add-fill-rest-2 c = omega (arith, bits (both c))
+
+mul-fill-rest-4 : tie.Need-mul-fill-rest-4
+mul-fill-rest-4 c = search needs
+
+sub-fill-rest : tie.Need-sub-fill-rest
+sub-fill-rest c = search needs
+
+fill-rest-requires-3 : tie.Need-fill-rest-requires-3
+fill-rest-requires-3 c κs =
+    let k = c .before in
+    let s = both k in
+    let few = k .before .before .fill-rest2 .ensures .0 in
+    let less = k .before .before .before .before .before .before .fill-rest .ensures .0 in
+    (s .pre .0, s .pre .1, s .pre .2, s .pre .4, omega (arith, split s, long4 k), omega (arith, bits s), s .pre .9)
 
 same-length : tie.Need-same-length
 same-length c = search needs
 
 returns : tie.Need-returns
 returns c =
-    let s = start (c .before) in
-    let e : done s * s .args .k ≡ s .args .n = omega (arith, split s) in
-    record {
-      few = omega (arith, split s);
-      pad = 0;
-      sums = λ f. c .before .before .before .fill .ensures f ∙ ap (sumAt f (s .args .part .now) (s .args .stride) (s .args .start)) e ∙ omega arith;
-    }
-
-mul-at : tie.Need-mul-at
-mul-at c = search needs
-
-mul-at-2 : tie.Need-mul-at-2
-mul-at-2 c = omega (arith, there (start (c .before)) 0 (omega arith))
-
-add-at : tie.Need-add-at
-add-at c = omega (arith, there (start (c .before)) 0 (omega arith))
-
-smaller-requires : tie.Need-smaller-requires
-smaller-requires c κs = search needs
-
-near : (c : tie.After-smaller) →
-    let s = start (c .before .before) in
-    (c .smaller .result ≤ s .args .k) × (c .smaller .result ≤ left s) × (left s - c .smaller .result ≤ s .args .k)
-near c =
-    let s = start (c .before .before) in
-    (omega (arith, c .smaller .ensures), omega (arith, c .smaller .ensures), omega (arith, c .smaller .ensures, split s))
-
-rest-word-requires : tie.Need-rest-word-requires
-rest-word-requires c κs =
-    let s = start (c .before .before) in
-    (s .pre .1, near c .0, s .pre .4, there s (c .smaller .result) (near c .1), s .pre .0, s .pre .9)
-
-mul-room : tie.Need-mul-room
-mul-room c = omega (arith, split (start (c .before .before .before)))
-
-slice-write-room : tie.Need-slice-write-room
-slice-write-room c =
-    let k = c .before .before .before in
-    omega (arith, split (start k), long k)
-
-mul-rest-word : tie.Need-mul-rest-word
-mul-rest-word c = omega (arith, there (start (c .before .before .before)) (c .before .smaller .result) (near (c .before) .1))
-
-add-rest-word : tie.Need-add-rest-word
-add-rest-word c = omega (arith, there (start (c .before .before .before)) (c .before .smaller .result) (near (c .before) .1))
-
-sub-rest-word : tie.Need-sub-rest-word
-sub-rest-word c = near (c .before) .1
-
-rest-word-requires-2 : tie.Need-rest-word-requires-2
-rest-word-requires-2 c κs =
-    let s = start (c .before .before .before) in
-    let m = c .before .smaller .result in
-    let e : left s ≡ m + (left s - m) = omega (arith, near (c .before) .1) in
-    (s .pre .1, near (c .before) .2, s .pre .4, omega (arith, there s (left s) (omega arith), ap (λ (x : ℕ). x * s .args .stride) e), s .pre .0, s .pre .9)
-
-add-room : tie.Need-add-room
-add-room c = omega (arith, split (start (c .before .before .before .before)))
-
-mul-room-2 : tie.Need-mul-room-2
-mul-room-2 c = omega (arith, split (start (c .before .before .before .before)))
-
-slice-write-room-2 : tie.Need-slice-write-room-2
-slice-write-room-2 c =
-    let k = c .before .before .before .before in
-    omega (arith, split (start k), long k, length-set (row k) (done (start k)) (c .before .rest-word .result))
-
-add-result : tie.Need-add-result
-add-result c = omega (arith, split (start (c .before .before .before .before)))
-
-same-length-2 : tie.Need-same-length-2
-same-length-2 c = search needs
-
-returns-2 : tie.Need-returns-2
-returns-2 c =
-    let k = c .before .before .before .before in
-    let s = start k in
+    let b = c .before .before .before .before in
+    let n = b .before .before .before .before in
+    let h = n .before .before .before .before in
+    let s = halves h in
     let a = s .args in
-    let m = c .before .before .smaller .result in
-    let n = near (c .before .before) in
-    record {
-      few = omega (arith, split s);
-      pad = a .k + a .k - left s;
-      sums = λ f.
-          words-rest f (a .part .now) (a .stride) (a .k) (a .start) (a .n) (row k) (done s) (c .before .rest-word .result) (c .rest-word2 .result) m (left s - m) (a .k + a .k - left s)
-          (omega (arith, split s, long k)) (omega (arith, split s, n .1)) (omega (arith, split s, n)) (n .0) (n .2)
-          (k .before .before .fill .ensures f) (c .before .rest-word .ensures f) (c .rest-word2 .ensures f);
-    }
+    let far = a .n / 16 * a .stride in
+    let p = pairs s in
+    let there : a .start + 8 * far ≡ a .start + half s * a .stride = omega arith in
+    let beyond : a .start + p * a .k * a .stride + 8 * far ≡ a .start + half s * a .stride + p * a .k * a .stride = omega arith in
+    let after : a .start + 16 * far ≡ a .start + (half s + half s) * a .stride = omega arith in
+    let x = n .before .before .fill-rest .ensures in
+    let y = b .before .before .fill-rest2 .ensures in
+    let z = c .before .before .fill-rest3 .ensures in
+    filled (a .part .now) (a .stride) (a .k) (a .start) (half s) p (left s) (a .n - 2 * half s) (a .n) (row2 h) (row3 n) (row4 b) _ (n .before .before .fill-rest .result)
+    (b .before .before .fill-rest2 .result) (c .before .before .fill-rest3 .result) (omega (arith, split s)) (omega arith) (omega (arith, split s))
+    (λ f. rw there at (h .before .before .fill .ensures f)) (x .1) (rw beyond at (y .1)) (rw after at (z .1))
 
 pub read-words-spec : {M : Type 1} → statement M
 read-words-spec =
     tie.close
     (tie.spec
-    mul-pairs
+    mul-half
+    mul-far
     div-pairs
     fill-requires
-    mul-done
-    mul-left
-    sub-left
-    same-length
-    returns
+    mul-rest
+    sub-rest
     mul-at
     mul-at-2
     add-at
-    smaller-requires
-    rest-word-requires
-    mul-room
-    slice-write-room
-    mul-rest-word
-    add-rest-word
-    sub-rest-word
-    rest-word-requires-2
-    add-room
-    mul-room-2
-    slice-write-room-2
-    add-result
-    same-length-2
-    returns-2)
+    mul-fill-rest
+    fill-rest-requires
+    mul-fill-rest-2
+    add-fill-rest
+    fill-rest-requires-2
+    mul-fill-rest-3
+    add-fill-rest-2
+    mul-fill-rest-4
+    sub-fill-rest
+    fill-rest-requires-3
+    same-length
+    returns)
