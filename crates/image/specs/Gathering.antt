@@ -8,7 +8,7 @@ use native.Mathlib.Omega.{arith}
 use lib.Bits.{bitAnd, bitOr, and-le-r, and-zero-l, or-lt}
 use lib.ListN.{getD, set, length}
 use lib.Pow.{pow-add, pow-mono, shl-exact, pow-pos, split, high, low, shr-lt}
-use Rattle.image.specs.Lanes.{sumLanes, onesOf, lane-each, sumWords, words-more, sumAt, sum-append}
+use Rattle.image.specs.Lanes.{Bytewise, words-flat, sumLanes, onesOf, lane-each, sumWords, words-more, sumAt, sum-append}
 use Rattle.image.specs.Masks.{spread, clear-both, both-clear}
 use Rattle.image.specs.Weighing.{gapOf, faultOf, reachOf, no-fault, no-reach, gaps-are}
 
@@ -154,18 +154,20 @@ module _ (s : List ℕ) (S k at : ℕ) (row₀ : List ℕ) (i₀ : ℕ) where
 -- the n fields from bit `start` on, as the first words of a row
 pub record Filled (s : List ℕ) (S k start n : ℕ) (row : List ℕ) (count : ℕ) : Type 0 where
   pub few : count ≤ 128
+  pub tight : count * k ≤ n + 3 * k
   pub pad : ℕ
   pub sums : (f : ℕ → ℕ) → sumWords f S k row count ≡ sumAt f s S start n + pad * f 1
 
 -- two halves of h fields side by side, p words each with r fields left, and t fields after them
 pub filled :
-    (s : List ℕ) (S k start h p r t n : ℕ) (a b c d : List ℕ) (j l m : ℕ) → h ≡ p * k + r → n ≡ h + h + t → m ≤ 128 →
+    (s : List ℕ) (S k start h p r t n : ℕ) (a b c d : List ℕ) (j l m : ℕ) → h ≡ p * k + r → n ≡ h + h + t → m ≤ 128 → m * k ≤ n + 3 * k →
     ((f : ℕ → ℕ) → sumWords f S k a (2 * p) ≡ sumAt f s S start (p * k) + sumAt f s S (start + h * S) (p * k)) →
     Added s S k (start + p * k * S) r a (2 * p) b j → Added s S k (start + h * S + p * k * S) r b j c l → Added s S k (start + (h + h) * S) t c l d m →
     Filled s S k start n d m
-filled s S k start h p r t n a b c d j l m eh en few e x y z =
+filled s S k start h p r t n a b c d j l m eh en few tight e x y z =
     record {
       few = few;
+      tight = tight;
       pad = x .pad + y .pad + z .pad;
       sums = λ f.
           let q = p * k in
@@ -178,7 +180,7 @@ filled s S k start h p r t n a b c d j l m eh en few e x y z =
 -- what weighing says
 pub record Weighs (w k L : ℕ) (row : List ℕ) (count gaps bad hit : ℕ) : Type 0 where
   pub sum : gaps ≡ sumWords gapOf (w + 8) k row count
-  pub small : gaps ≤ 21474836480
+  pub small : gaps ≤ 25769803776
   pub fair : bad ≡ 0 → sumWords (faultOf L) (w + 8) k row count ≡ 0
   pub reached : sumWords (reachOf L) (w + 8) k row count ≡ 0 → hit ≡ 0
 
@@ -206,4 +208,20 @@ masks w k L o e few most =
       impact = omega (arith, lane-each 255 (w + 8) k (omega arith));
       above = mul-le-mul-right (onesOf (w + 8) k) (omega arith);
       equal = mul-le-mul-right (onesOf (w + 8) k) (omega arith);
+    })
+
+-- with no gaps: the words as lanes of two bytes, taken twice
+pub weighs-gapless :
+    (w k L : ℕ) (row two : List ℕ) (count gaps bad hit : ℕ) → w ≡ 0 → k ≡ 6 →
+    ((f : ℕ → ℕ) → Bytewise f → sumWords f 16 3 two (2 * count) ≡ sumWords f 8 6 row count) →
+    Weighs 8 3 L two (2 * count) gaps bad hit → Weighs w k L row count 0 bad hit
+weighs-gapless w k L row two count gaps bad hit ew ek same x =
+    let fault : Bytewise (faultOf L) = λ y. let e : y % 256 % 256 ≡ y % 256 = omega arith in rw e in
+    let reach : Bytewise (reachOf L) = λ y. let e : y % 256 % 256 ≡ y % 256 = omega arith in rw e in
+    rw (ew, ek)
+    (record {
+      sum = sym (words-flat 6 row count);
+      small = omega arith;
+      fair = λ z. sym (same (faultOf L) fault) ∙ x .fair z;
+      reached = λ z. x .reached (same (reachOf L) reach ∙ z);
     })

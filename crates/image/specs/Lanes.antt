@@ -111,6 +111,10 @@ unfoldable pub sumWords : (ℕ → ℕ) → ℕ → ℕ → List ℕ → ℕ →
 sumWords f S k row zero = 0
 sumWords f S k row (suc n) = sumWords f S k row n + sumLanes f S (getD row n 0) k
 
+pub words-zero : (f : ℕ → ℕ) (S k : ℕ) (row : List ℕ) → sumWords f S k row 0 ≡ 0
+unfolding sumWords
+words-zero f S k row = refl
+
 -- a word stored past the first n
 pub words-kept : (f : ℕ → ℕ) (S k : ℕ) (row : List ℕ) (i x n : ℕ) → n ≤ i → sumWords f S k (set row i x) n ≡ sumWords f S k row n
 unfolding sumWords
@@ -126,7 +130,8 @@ words-more f S k row i x h = rw (add-one i, words-kept f S k row i x i (omega ar
 -- so many postings with gaps of w bits are read at once: a word has 57 bits for them, wherever in a byte they begin
 pub record Packs (w k : ℕ) : Type 0 where
   pub some : 0 < k
-  pub few : k ≤ 5
+  pub few : k ≤ 6
+  pub gapless : w ≡ 0 → k ≡ 6
   pub least : 13 ≤ k * (w + 8)
   pub most : k * (w + 8) ≤ 57
 
@@ -209,3 +214,36 @@ shared h k some =
     let e : p * k + h % k ≡ h = div-add-mod' h k in
     let l : h % k < k = mod-lt h some in
     record { whole = omega arith; rest = omega arith; few = omega (arith, mul-le-mul-left p some) }
+
+-- f asks for the lowest byte alone
+abbrev pub Bytewise : (ℕ → ℕ) → Type 0
+Bytewise f = (y : ℕ) → f y ≡ f (y % 256)
+
+-- lanes of one byte, as lanes of two bytes taken twice
+pub lanes-bytes : (f : ℕ → ℕ) (x k : ℕ) → Bytewise f → sumLanes f 8 x (2 * k) ≡ sumLanes f 16 x k + sumLanes f 16 (x / 256) k
+unfolding sumLanes
+lanes-bytes f x zero b = refl
+lanes-bytes f x (suc k) b =
+    let n : 2 * suc k ≡ suc (suc (2 * k)) = omega arith in
+    let low : f (x % 2 ^ 16) ≡ f (x % 256) = b (x % 2 ^ 16) ∙ ap f (mod-mod-pow x 8 8) in
+    let next : f (x / 256 % 2 ^ 16) ≡ f (x / 256 % 256) = b (x / 256 % 2 ^ 16) ∙ ap f (mod-mod-pow (x / 256) 8 8) in
+    let two : x / 256 / 256 ≡ x / 2 ^ 16 = shr-shr x 8 8 in
+    let three : x / 256 / 2 ^ 16 ≡ x / 2 ^ 16 / 256 = shr-shr x 8 16 ∙ sym (shr-shr x 16 8) in
+    rw (n, low, next, two, three, lanes-bytes f (x / 2 ^ 16) k b) (omega arith)
+
+-- one word more in either reading
+pub words-bytes : (f : ℕ → ℕ) (row : List ℕ) (i : ℕ) → Bytewise f →
+    sumWords f 8 6 row (i + 1) + sumWords f 16 3 row i ≡ sumWords f 8 6 row i + sumWords f 16 3 row (i + 1) + sumLanes f 16 (getD row i 0 / 256) 3
+unfolding sumWords
+words-bytes f row i b = rw (add-one i) (omega (arith, lanes-bytes f (getD row i 0) 3 b))
+
+-- bytes have no gaps
+lanes-flat : (x k : ℕ) → sumLanes (λ y. y / 256) 8 x k ≡ 0
+unfolding sumLanes
+lanes-flat x zero = refl
+lanes-flat x (suc k) = omega (arith, lanes-flat (x / 2 ^ 8) k)
+
+pub words-flat : (k : ℕ) (row : List ℕ) (n : ℕ) → sumWords (λ y. y / 256) 8 k row n ≡ 0
+unfolding sumWords
+words-flat k row zero = refl
+words-flat k row (suc n) = omega (arith, words-flat k row n, lanes-flat (getD row n 0) k)

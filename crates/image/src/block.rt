@@ -1,4 +1,5 @@
 // "Each block is judged on its own part of the image, cut from the byte that holds its first bit": refusals 5, 6 and 7 of a block.
+use super::fields::Head;
 use super::fields::read_head;
 use super::words::ones_of;
 use super::words::per_word;
@@ -6,6 +7,8 @@ use super::words::read_words;
 use super::words::weigh;
 ghost use mathlib.Core.Path.{_≡_};
 ghost use Prim.Native.Nat.{ℕ, _+_, _*_, _≤_, _<_, max};
+ghost use mathlib.Core.Bool.{_&&_};
+ghost use lib.Dec.{eqb};
 ghost use lib.ListN.{length};
 ghost use Rattle.meaning.specs.Image.{postingsAt, blockAt};
 ghost use Rattle.image.specs.Answers.{keep, keptOf, postingsSay, Sure, takenOf, blockSays};
@@ -79,9 +82,6 @@ fn judge_words(
     requires { ⌜ Words (now part) docs w start first n largest (now room) ⌝ }
     ensures { λ r. ⌜ ((t : ℕ) → Sure r (keep (keptOf first) (postingsAt (now (part .entry)) docs t w start first n))) ⌝ }
 {
-    if w == 0 {
-        return Postings::Wrong;
-    }
     if n < FEW {
         return Postings::Wrong;
     }
@@ -123,6 +123,17 @@ pub fn judge_postings(
     }
 }
 
+// No refusal 7 of a block: its last document and its largest impact are the true ones.
+fn closes(head: Head, after: u64, top: u64) -> bool
+    requires { ⌜ head .last < 16777216 ⌝ }
+    ensures { λ r. ⌜ r ≡ (eqb (head .last + 1) after && eqb (head .largest) top) ⌝ }
+{
+    if head.last + 1 != after {
+        return false;
+    }
+    head.largest == top
+}
+
 // The block at bit `shift` of a part, in a list that has `left` postings left.
 pub fn judge_block(
     part: &[u8],
@@ -142,8 +153,6 @@ pub fn judge_block(
     let head = read_head(part, shift);
     let n = head.count;
     let w = head.width;
-    let last = head.last;
-    let largest = head.largest;
     if 24 < w {
         return Block::Wrong(5);
     }
@@ -154,14 +163,11 @@ pub fn judge_block(
     if end < shift + size {
         return Block::Wrong(5);
     }
-    let found = judge_postings(part, docs, w, shift + 44, next, n, largest, room);
+    let found = judge_postings(part, docs, w, shift + 44, next, n, head.largest, room);
     match found {
         Postings::Wrong => Block::Wrong(6),
         Postings::Good(after, top) => {
-            if last + 1 != after {
-                return Block::Wrong(7);
-            }
-            if largest != top {
+            if !closes(head, after, top) {
                 return Block::Wrong(7);
             }
             Block::Good(size, n, after, top)

@@ -4,14 +4,17 @@ ghost use mathlib.Core.Path.{_≡_};
 ghost use Prim.Native.Nat.{ℕ, _+_, _-_, _*_, _/_, _%_, _^_, _≤_, _<_, min};
 ghost use lib.ListN.{length};
 ghost use Rattle.meaning.specs.Bits.{bitsAt};
-ghost use Rattle.image.specs.Lanes.{Packs, sumLanes, sumAt, sumWords, onesOf};
+ghost use Rattle.image.specs.Lanes.{Packs, Bytewise, sumLanes, sumAt, sumWords, onesOf};
 ghost use Rattle.image.specs.Gathering.{Added, Filled, Weighs};
 
 // So many postings with gaps of w bits are read as one word.
 pub fn per_word(w: usize) -> usize
-    requires { ⌜ (0 < w) × (w ≤ 24) ⌝ }
+    requires { ⌜ w ≤ 24 ⌝ }
     ensures { λ r. ⌜ Packs w r ⌝ }
 {
+    if w == 0 {
+        return 6;
+    }
     if w < 4 {
         return 5;
     }
@@ -104,7 +107,7 @@ fn fill_rest(
     room: &mut [u64],
 ) -> usize
     requires { ⌜ (length (now part) < 16777216) × (0 < stride) × (0 < k) × (k * stride ≤ 57) × (done + n ≤ length (now room)) × (start + n * stride ≤ 8 * length (now part)) × (ones ≡ onesOf stride k) ⌝ }
-    ensures { λ r. ⌜ (r ≤ done + n) × Added (now (part .entry)) stride k start n (now (room .entry)) done (now (room .exit)) r ⌝ }
+    ensures { λ r. ⌜ (r ≤ done + n) × (r * k ≤ done * k + n + k) × Added (now (part .entry)) stride k start n (now (room .entry)) done (now (room .exit)) r ⌝ }
 {
     let mut at = start;
     let mut left = n;
@@ -130,7 +133,7 @@ pub fn read_words(
     ones: u64,
     room: &mut [u64],
 ) -> usize
-    requires { ⌜ (length (now part) < 16777216) × (0 < stride) × (0 < k) × (k ≤ 5) × (k * stride ≤ 57) × (57 ≤ start + k * stride) × (n ≤ 128) × (length (now room) ≡ 128) × (start + n * stride ≤ 8 * length (now part)) × (ones ≡ onesOf stride k) ⌝ }
+    requires { ⌜ (length (now part) < 16777216) × (0 < stride) × (0 < k) × (k ≤ 6) × (k * stride ≤ 57) × (57 ≤ start + k * stride) × (n ≤ 128) × (length (now room) ≡ 128) × (start + n * stride ≤ 8 * length (now part)) × (ones ≡ onesOf stride k) ⌝ }
     ensures { λ r. ⌜ Filled (now (part .entry)) stride k start n (now (room .exit)) r ⌝ }
 {
     let m = n / 16;
@@ -156,8 +159,8 @@ pub fn read_words(
 
 // What the lanes of a word come to, where 8 bits stand below each.
 fn total(gaps: u64, stride: usize, k: usize) -> u64
-    requires { ⌜ (stride ≤ 32) × (k ≤ 5) ⌝ }
-    ensures { λ r. ⌜ (r ≡ sumLanes (λ y. y) stride (gaps / 256) k) × (r ≤ 21474836480) ⌝ }
+    requires { ⌜ (stride ≤ 32) × (k ≤ 6) ⌝ }
+    ensures { λ r. ⌜ (r ≡ sumLanes (λ y. y) stride (gaps / 256) k) × (r ≤ 25769803776) ⌝ }
 {
     let lane: u64 = 1 << stride;
     let mut sum: u64 = 0;
@@ -178,8 +181,8 @@ pub struct Weight {
     pub hit: u64,
 }
 
-// The first `count` words of a row, of k postings each; `largest` is the impact that the block's head has. Above each impact one bit is left to tell.
-pub fn weigh(row: &[u64], count: usize, w: usize, k: usize, ones: u64, largest: u64) -> Weight
+// The first `count` words of a row, of k postings each; `largest` is the impact that the block's head has. A gap's lowest bit is left to tell of the impact below it.
+fn weigh_lanes(row: &[u64], count: usize, w: usize, k: usize, ones: u64, largest: u64) -> Weight
     requires { ⌜ (count ≤ 128) × (count ≤ length (now row)) × (0 < w) × (w ≤ 24) × (Packs w k) × (ones ≡ onesOf (w + 8) k) × (largest ≤ 255) ⌝ }
     ensures { λ r. ⌜ Weighs w k largest (now (row .entry)) count (r .gaps) (r .bad) (r .hit) ⌝ }
 {
@@ -205,4 +208,33 @@ pub fn weigh(row: &[u64], count: usize, w: usize, k: usize, ones: u64, largest: 
         bad: bad & guard,
         hit: hit & guard,
     }
+}
+
+// Each of the first `count` words once more after them, without its lowest byte.
+fn lower(room: &mut [u64], count: usize)
+    requires { ⌜ (count ≤ 64) × (2 * count ≤ length (now room)) ⌝ }
+    ensures { λ r. ⌜ ((f : ℕ → ℕ) → Bytewise f → sumWords f 16 3 (now (room .exit)) (2 * count) ≡ sumWords f 8 6 (now (room .entry)) count) ⌝ }
+{
+    let mut i: usize = 0;
+    while i < count {
+        room[count + i] = room[i] / 256;
+        i += 1;
+    }
+}
+
+// The words of a block's postings. Impacts with no gaps between them are taken two to a lane, and all words twice.
+pub fn weigh(room: &mut [u64], count: usize, w: usize, k: usize, ones: u64, largest: u64) -> Weight
+    requires { ⌜ (count ≤ 128) × (length (now room) ≡ 128) × (w ≤ 24) × (Packs w k) × (ones ≡ onesOf (w + 8) k) × (largest ≤ 255) × (count * k ≤ 128 + 3 * k) ⌝ }
+    ensures { λ r. ⌜ Weighs w k largest (now (room .entry)) count (r .gaps) (r .bad) (r .hit) ⌝ }
+{
+    if w == 0 {
+        lower(room, count);
+        let both = weigh_lanes(room, 2 * count, 8, 3, ones_of(16, 3), largest);
+        return Weight {
+            gaps: 0,
+            bad: both.bad,
+            hit: both.hit,
+        };
+    }
+    weigh_lanes(room, count, w, k, ones, largest)
 }

@@ -6,7 +6,7 @@ use native.Mathlib.Omega.{arith}
 use lib.Dec.{leb}
 use lib.ListN.{length}
 use borrow.Author.Needs.{needs}
-use borrow.Author.Tests.{le-leb, lt-leb, eq-eqb, ne-eqb}
+use borrow.Author.Tests.{le-leb, lt-leb, not-true, not-false}
 use Rattle.meaning.specs.Judged.{bad, _>>=_}
 use Rattle.meaning.specs.Layout.{sizeOf}
 use Rattle.meaning.specs.Image.{blockAt}
@@ -115,32 +115,30 @@ enum-told c = search needs
 enum-known-found : tie.Need-enum-known-found
 enum-known-found c = search needs
 
-add-if5 : tie.Need-add-if5
-add-if5 c = omega (arith, small (c .before .before .before .before .before .before .before .before .before .before) .last)
+closes-requires : tie.Need-closes-requires
+closes-requires c κs = small (c .before .before .before .before .before .before .before .before .before .before) .last
 
 same-length : tie.Need-same-length
 same-length c = search needs
 
 returns-5 : tie.Need-returns-5
-returns-5 c t = sym (body (c .before .before .before .before .before .before) t _ (c .before .before .found .given .1) ∙ rw (ne-eqb _ _ (c .if5 .taken)))
+returns-5 c t =
+    let l = c .before in
+    sym (body (l .before .before .before .before .before .before) t _ (l .before .before .found .given .1) ∙ rw (sym (l .closes .ensures) ∙ not-true (l .closes .result) (c .if5 .taken)))
 
 same-length-2 : tie.Need-same-length-2
 same-length-2 c = search needs
 
 returns-6 : tie.Need-returns-6
-returns-6 c t = sym (body (c .before .before .before .before .before .before .before) t _ (c .before .before .before .found .given .1) ∙ rw (eq-eqb _ _ (c .before .if5 .left), ne-eqb _ _ (c .if6 .taken)))
+returns-6 c t = sym (body (c .before .before .before .before) t _ (c .enum-told .given .1))
 
 same-length-3 : tie.Need-same-length-3
 same-length-3 c = search needs
 
 returns-7 : tie.Need-returns-7
-returns-7 c t = sym (body (c .before .before .before .before) t _ (c .enum-told .given .1))
-
-same-length-4 : tie.Need-same-length-4
-same-length-4 c = search needs
-
-returns-8 : tie.Need-returns-8
-returns-8 c t = sym (body (c .before .before .before .before .before .before .before) t _ (c .before .before .before .found .given .1) ∙ rw (eq-eqb _ _ (c .before .if5 .left), eq-eqb _ _ (c .if6 .left)))
+returns-7 c t =
+    let l = c .before in
+    sym (body (l .before .before .before .before .before .before) t _ (l .before .before .found .given .1) ∙ rw (sym (l .closes .ensures) ∙ not-false (l .closes .result) (c .if5 .left)))
 
 pub judge-block-spec : {M : Type 1} → statement M
 judge-block-spec =
@@ -161,12 +159,10 @@ judge-block-spec =
     judge-postings-requires
     enum-told
     enum-known-found
-    add-if5
+    closes-requires
     same-length
     returns-5
     same-length-2
     returns-6
     same-length-3
-    returns-7
-    same-length-4
-    returns-8)
+    returns-7)

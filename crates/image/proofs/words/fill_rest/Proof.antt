@@ -17,6 +17,8 @@ Inv-loop part start stride k n ones done room₀ at₀ left₀ i₀ room at left
     × (length room ≡ length room₀)
     × (at + left * stride ≡ start + n * stride)
     × Added part stride k start (n - left) room₀ done room i
+    × (0 < left → i * k ≡ done * k + (n - left))
+    × (i * k ≤ done * k + n + k)
 
 abbrev μ-loop : tie.MeasureT-loop
 μ-loop part start stride k n ones done room₀ at₀ left₀ i₀ room at left i = left
@@ -37,7 +39,7 @@ takes c =
 loop-holds : tie.Need-loop-holds Inv-loop μ-loop
 loop-holds c =
     let a = c .before .before .args in
-    (omega arith, omega arith, refl, refl, added-none (a .part .now) (a .stride) (a .k) (a .start) (a .room .now) (a .done) (a .n - a .n) (omega arith))
+    (omega arith, omega arith, refl, refl, added-none (a .part .now) (a .stride) (a .k) (a .start) (a .room .now) (a .done) (a .n - a .n) (omega arith), (λ some. omega arith), omega arith)
 
 smaller-requires : tie.Need-smaller-requires Inv-loop μ-loop
 smaller-requires c κs = search needs
@@ -76,6 +78,7 @@ loop-again c =
     let a = l .before .before .before .args in
     let r = m .smaller .result in
     let t = takes m in
+    let full = l .loop .inv .5 (m .before .loop-test .taken) in
     let gone = a .n - l .loop .left in
     let e : a .n ≡ gone + l .loop .left = omega arith in
     let at : l .loop .at ≡ a .start + gone * a .stride = omega (arith, ap (λ (x : ℕ). x * a .stride) e) in (
@@ -86,6 +89,8 @@ loop-again c =
       added-more (a .part .now) (a .stride) (a .k) (a .start) (a .room .now) (a .done) gone (a .n - (l .loop .left - r)) r (l .loop .room) (l .loop .i) (c .rest-word .result)
           (omega (arith, t)) (omega (arith, t))
           (λ f. c .rest-word .ensures f ∙ ap (λ (i : ℕ). sumAt f (a .part .now) (a .stride) i r + (a .k - r) * f 1) at) (l .loop .inv .4),
+      (λ some. omega (arith, full, m .smaller .ensures)),
+      omega (arith, full),
     )
 
 same-length : tie.Need-same-length Inv-loop μ-loop
@@ -96,7 +101,7 @@ returns c =
     let l = c .before in
     let a = l .before .before .before .args in
     let e : a .n - l .loop .left ≡ a .n = omega arith in
-    (omega arith, rw e at (l .loop .inv .4))
+    (omega arith, l .loop .inv .6, rw e at (l .loop .inv .4))
 
 pub fill-rest-spec : {M : Type 1} → statement M
 fill-rest-spec =

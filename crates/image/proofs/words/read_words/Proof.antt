@@ -157,8 +157,8 @@ returns c =
     let y = b .before .before .fill-rest2 .ensures in
     let z = c .before .before .fill-rest3 .ensures in
     filled (a .part .now) (a .stride) (a .k) (a .start) (half s) p (left s) (a .n - 2 * half s) (a .n) (row2 h) (row3 n) (row4 b) _ (n .before .before .fill-rest .result)
-    (b .before .before .fill-rest2 .result) (c .before .before .fill-rest3 .result) (omega (arith, split s)) (omega arith) (omega (arith, split s))
-    (λ f. rw there at (h .before .before .fill .ensures f)) (x .1) (rw beyond at (y .1)) (rw after at (z .1))
+    (b .before .before .fill-rest2 .result) (c .before .before .fill-rest3 .result) (omega (arith, split s)) (omega arith) (omega (arith, split s)) (omega (arith, split s))
+    (λ f. rw there at (h .before .before .fill .ensures f)) (x .2) (rw beyond at (y .2)) (rw after at (z .2))
 
 pub read-words-spec : {M : Type 1} → statement M
 read-words-spec =

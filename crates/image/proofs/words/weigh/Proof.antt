@@ -1,161 +1,70 @@
--- What a word adds each turn; the masks leave room for every sum.
-use Prim.Native.Nat.{ℕ, _+_, _-_, _*_, _%_, _^_, _≤_, _<_}
-use mathlib.Core.Path.{_≡_, refl, sym, ap, _∙_}
+-- Lanes as they are, or two bytes to a lane.
+use Prim.Native.Nat.{ℕ, _+_, _*_, _≤_}
+use mathlib.Core.Path.{_≡_, _∙_}
 use native.Mathlib.Omega.{arith}
-use lib.Bits.{bitAnd, and-le-r, or-lt}
-use lib.ListN.{getD}
 use borrow.Author.Needs.{needs}
-use Rattle.image.specs.Lanes.{onesOf}
-use Rattle.image.specs.Gathering.{Weighed, weighed-none, weighed-more, weighed-gaps, Masks, masks}
+use Rattle.image.specs.Gathering.{weighs-gapless}
 use Rattle.image.proofs.words.weigh.Statement.{statement}
 use Rattle.image.proofs.words.weigh.Tie as tie
 
-abbrev Inv-loop : tie.InvT-loop
-Inv-loop row count w k ones largest gap impact guard above equal gaps₀ bad₀ hit₀ i₀ gaps bad hit i =
-    (i ≤ count) × (gaps ≤ i * 144115188075855871) × (bad < 2 ^ 64) × (hit < 2 ^ 64) × Weighed w k largest row i gaps bad hit
+-- with no gaps there are six postings to a word, and few words
+six : (c : tie.Then1) → c .before .before .args .k ≡ 6
+six c = c .before .before .pre .3 .gapless (c .if1 .taken)
 
-abbrev μ-loop : tie.MeasureT-loop
-μ-loop row count w k ones largest gap impact guard above equal gaps₀ bad₀ hit₀ i₀ gaps bad hit i = count - i
+few : (c : tie.Then1) → c .before .before .args .count ≤ 64
+few c =
+    let s = c .before .before in
+    let l : s .args .count * 6 ≤ 128 + 3 * 6 = rw (six c) at (s .pre .6) in
+    omega arith
 
-abbrev Start : Type 0
-Start = tie.Start Inv-loop μ-loop
+lower-requires : tie.Need-lower-requires
+lower-requires c κs = omega (arith, few (c .before))
 
-small : (s : Start) → Masks (s .args .w) (s .args .largest) (s .args .ones)
-small s = masks (s .args .w) (s .args .k) (s .args .largest) (s .args .ones) (s .pre .5) (s .pre .3) (s .pre .4 .most)
+mul-weigh-lanes : tie.Need-mul-weigh-lanes
+mul-weigh-lanes c = search needs
 
--- the word at hand, and its impacts
-abbrev word : tie.After-shared-slice-known2 Inv-loop μ-loop → ℕ
-word c = getD (c .before .before .before .before .args .row .now) (c .before .before .loop .i) 0
+ones-of-requires : tie.Need-ones-of-requires
+ones-of-requires c κs = search needs
 
-most : (c : tie.After-shared-slice-known2 Inv-loop μ-loop) → let o = c .before .before .before .before .args .ones in bitAnd (word c) (255 * o) ≤ 255 * o
-most c = and-le-r (word c) (255 * c .before .before .before .before .args .ones)
+weigh-lanes-requires : tie.Need-weigh-lanes-requires
+weigh-lanes-requires c κs =
+    let l = c .before .before .before .before in
+    let i = l .before .before in
+    let s = i .before .before in
+    let small = few i in
+    let long = l .lower .kept .0 ∙ s .pre .1 in
+    (omega arith, omega arith, omega arith, omega arith, record { some = omega arith; few = omega arith; gapless = λ e. absurd (omega arith); least = omega arith; most = omega arith }, c .ones-of .ensures, s .pre .5)
 
-shl-gap : tie.Need-shl-gap Inv-loop μ-loop
-shl-gap c = search needs
+same-length : tie.Need-same-length
+same-length c = search needs
 
-sub-gap : tie.Need-sub-gap Inv-loop μ-loop
-sub-gap c = omega (arith, small (c .before))
-
-mul-gap : tie.Need-mul-gap Inv-loop μ-loop
-mul-gap c = omega (arith, small (c .before))
-
-mul-gap-2 : tie.Need-mul-gap-2 Inv-loop μ-loop
-mul-gap-2 c = omega (arith, small (c .before))
-
-mul-impact : tie.Need-mul-impact Inv-loop μ-loop
-mul-impact c = omega (arith, small (c .before))
-
-mul-guard : tie.Need-mul-guard Inv-loop μ-loop
-mul-guard c = omega (arith, small (c .before))
-
-sub-above : tie.Need-sub-above Inv-loop μ-loop
-sub-above c = search needs
-
-mul-above : tie.Need-mul-above Inv-loop μ-loop
-mul-above c = omega (arith, small (c .before))
-
-sub-equal : tie.Need-sub-equal Inv-loop μ-loop
-sub-equal c = search needs
-
-mul-equal : tie.Need-mul-equal Inv-loop μ-loop
-mul-equal c = omega (arith, small (c .before))
-
-loop-holds : tie.Need-loop-holds Inv-loop μ-loop
-loop-holds c =
-    let a = c .before .args in
-    (omega arith, omega arith, omega arith, omega arith, weighed-none (a .w) (a .k) (a .largest) (a .row .now))
-
-mul-v : tie.Need-mul-v Inv-loop μ-loop
-mul-v c = search needs
-
-shared-slice-read-v : tie.Need-shared-slice-read-v Inv-loop μ-loop
-shared-slice-read-v c = search needs
-
-add-gaps : tie.Need-add-gaps Inv-loop μ-loop
-add-gaps c =
-    let s = c .before .before .before .before in
-    omega (arith, small s, and-le-r (word c) ((1 * 2 ^ s .args .w % 2 ^ 64 - 1) * 256 * s .args .ones))
-
-add-bad : tie.Need-add-bad Inv-loop μ-loop
-add-bad c = omega (arith, small (c .before .before .before .before), most c)
-
-sub-bad : tie.Need-sub-bad Inv-loop μ-loop
-sub-bad c = omega (arith, small (c .before .before .before .before), most c)
-
-add-hit : tie.Need-add-hit Inv-loop μ-loop
-add-hit c = omega (arith, small (c .before .before .before .before), most c)
-
-add-i : tie.Need-add-i Inv-loop μ-loop
-add-i c = search needs
-
-loop-less : tie.Need-loop-less Inv-loop μ-loop
-loop-less c = search needs
-
-loop-again : tie.Need-loop-again Inv-loop μ-loop
-loop-again c =
-    let l = c .before .before in
-    let s = l .before .before in
-    let a = s .args in
-    let b = small s in
-    let g = (1 * 2 ^ a .w % 2 ^ 64 - 1) * 256 * a .ones in
-    let eg : g ≡ (2 ^ a .w - 1) * 256 * onesOf (a .w + 8) (a .k) = ap (λ (x : ℕ). (x - 1) * 256 * a .ones) (b .shift) ∙ ap (λ (x : ℕ). (2 ^ a .w - 1) * 256 * x) (s .pre .5) in (
-      omega arith,
-      omega (arith, b, and-le-r (word c) g),
-      or-lt 64 _ _ (or-lt 64 _ _ (l .loop .inv .2) (omega (arith, b, most c))) (omega (arith, b)),
-      or-lt 64 _ _ (l .loop .inv .3) (omega (arith, b, most c)),
-      weighed-more (a .w) (a .k) (a .largest) (a .row .now) (a .ones) g (l .loop .i) (l .loop .gaps) (l .loop .bad) (l .loop .hit) (s .pre .5) eg (s .pre .2) (s .pre .6)
-          (omega arith) (l .loop .inv .2) (l .loop .inv .3) (omega (arith, b)) (l .loop .inv .4),
-    )
-
-add-total : tie.Need-add-total Inv-loop μ-loop
-add-total c = search needs
-
-total-requires : tie.Need-total-requires Inv-loop μ-loop
-total-requires c κs =
-    let s = c .before .before .before in
-    (omega arith, s .pre .4 .few)
-
-returns : tie.Need-returns Inv-loop μ-loop
+returns : tie.Need-returns
 returns c =
-    let l = c .before .before in
-    let s = l .before .before in
-    let a = s .args in
-    let e : l .loop .i ≡ a .count = omega arith in
-    let x : Weighed (a .w) (a .k) (a .largest) (a .row .now) (a .count) (l .loop .gaps) (l .loop .bad) (l .loop .hit) = rw e at (l .loop .inv .4) in
-    rw (s .pre .5)
-    (record {
-      sum = c .total .ensures .0 ∙ weighed-gaps (a .w) (a .k) (a .largest) (a .row .now) (a .count) (l .loop .gaps) (l .loop .bad) (l .loop .hit) x;
-      small = c .total .ensures .1;
-      fair = x .fair;
-      reached = x .reached;
-    })
+    let l = c .before .before .before .before .before in
+    let i = l .before .before in
+    let a = i .before .before .args in
+    weighs-gapless (a .w) (a .k) (a .largest) (a .room .now) _ (a .count) (c .weigh-lanes .result .gaps) (c .weigh-lanes .result .bad) (c .weigh-lanes .result .hit)
+    (i .if1 .taken) (six i) (l .lower .ensures) (c .weigh-lanes .ensures)
+
+weigh-lanes-requires-2 : tie.Need-weigh-lanes-requires-2
+weigh-lanes-requires-2 c κs = search needs
+
+same-length-2 : tie.Need-same-length-2
+same-length-2 c = search needs
+
+returns-2 : tie.Need-returns-2
+returns-2 c = search needs
 
 pub weigh-spec : {M : Type 1} → statement M
 weigh-spec =
     tie.close
     (tie.spec
-    Inv-loop
-    μ-loop
-    shl-gap
-    sub-gap
-    mul-gap
-    mul-gap-2
-    mul-impact
-    mul-guard
-    sub-above
-    mul-above
-    sub-equal
-    mul-equal
-    loop-holds
-    mul-v
-    shared-slice-read-v
-    add-gaps
-    add-bad
-    sub-bad
-    add-hit
-    add-i
-    loop-less
-    loop-again
-    add-total
-    total-requires
-    returns)
+    lower-requires
+    mul-weigh-lanes
+    ones-of-requires
+    weigh-lanes-requires
+    same-length
+    returns
+    weigh-lanes-requires-2
+    same-length-2
+    returns-2)
