@@ -9,3 +9,6 @@ field-only part shift n a b p q = p ∙ sym q
 
 pub word-only : (part : List ℕ) (a b : ℕ) → a ≡ bitsAt part 0 64 → b ≡ bitsAt part 0 64 → a ≡ b
 word-only part a b p q = p ∙ sym q
+
+pub first-only : (part : List ℕ) (n a b : ℕ) → a ≡ bitsAt part 0 n → b ≡ bitsAt part 0 n → a ≡ b
+first-only part n a b p q = p ∙ sym q

@@ -33,6 +33,14 @@ pub fn word(part: &[u8]) -> u64
     gather(part, 8)
 }
 
+// The first n bits, 1 to 64, of at least eight bytes.
+pub fn first(part: &[u8], n: usize) -> u64
+    requires { ⌜ (0 < n) × (n ≤ 64) × (8 ≤ length (now part)) ⌝ }
+    ensures { λ r. ⌜ r ≡ bitsAt (now (part .entry)) 0 n ⌝ }
+{
+    word(part) >> (64 - n)
+}
+
 // The same where fewer bytes are there: zeros follow them.
 fn word_end(part: &[u8]) -> u64
     requires { ⌜ length (now part) < 8 ⌝ }

@@ -1,5 +1,6 @@
 -- What the answers of the judging functions say: for each case the paper's number and values. A refusal's place is the term t.
 use Prim.Native.Nat.{ℕ, _-_}
+use mathlib.Core.Path.{_≡_}
 use mathlib.Core.List.{List}
 use lib.ListN.{length}
 use Rattle.meaning.specs.Judged.{Judged, good, bad}
@@ -31,6 +32,11 @@ keptOf next ps = record { next = nextOf ps next; largest = largestOf ps }
 abbrev pub postingsSay : ℕ → Postings → Judged Kept
 postingsSay t postings.Wrong = bad 6 t
 postingsSay t (postings.Good next largest) = good (record { next = next; largest = largest })
+
+-- what is sure of postings that were weighed together: what is kept of them where they are good, and nothing where they are not
+abbrev pub Sure : Postings → Judged Kept → Type 0
+Sure postings.Wrong m = Unit {0}
+Sure (postings.Good next largest) m = good (record { next = next; largest = largest }) ≡ m
 
 -- what is kept of a block at bit i: the bits and the postings that it takes, and as of its postings
 pub record Taken : Type 0 where

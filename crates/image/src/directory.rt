@@ -43,8 +43,8 @@ fn entry_fits(docs: u64, due: usize, entry: Entry) -> bool
 }
 
 // The entry and the list of a term; a list with postings is due at bit `due`.
-pub fn judge_list(image: &[u8], docs: u64, term: usize, due: usize) -> Listed
-    requires { ⌜ (docs < 16777216) × (length (now image) < 16777216) × (16 + 8 * term ≤ length (now image)) × (due ≤ 8 * length (now image)) ⌝ }
+pub fn judge_list(image: &[u8], docs: u64, term: usize, due: usize, room: &mut [u64]) -> Listed
+    requires { ⌜ (docs < 16777216) × (length (now image) < 16777216) × (16 + 8 * term ≤ length (now image)) × (due ≤ 8 * length (now image)) × (length (now room) ≡ 128) ⌝ }
     ensures { λ r. ⌜ listSays term r ≡ keep stopOf (termsAt (now (image .entry)) docs term due 1) ⌝ }
 {
     let entry = read_entry(image, term);
@@ -52,7 +52,7 @@ pub fn judge_list(image: &[u8], docs: u64, term: usize, due: usize) -> Listed
         return Listed::Wrong(4);
     }
     let largest = entry.largest;
-    let found = judge_blocks(image, docs, due, entry.count);
+    let found = judge_blocks(image, docs, due, entry.count, room);
     match found {
         Blocks::Wrong(number) => Listed::Wrong(number),
         Blocks::Good(stop, top) => {
@@ -69,10 +69,11 @@ pub fn judge_lists(image: &[u8], docs: u64, terms: usize) -> Lists
     requires { ⌜ (docs < 16777216) × (length (now image) < 16777216) × (8 + 8 * terms ≤ length (now image)) ⌝ }
     ensures { λ r. ⌜ listsSay r ≡ keep stopOf (termsAt (now (image .entry)) docs 0 (64 + 64 * terms) terms) ⌝ }
 {
+    let mut room = [0u64; 128];
     let mut due = 64 + 64 * terms;
     let mut term: usize = 0;
     while term < terms {
-        let found = judge_list(image, docs, term, due);
+        let found = judge_list(image, docs, term, due, &mut room);
         match found {
             Listed::Wrong(number) => {
                 return Lists::Wrong(number, term);

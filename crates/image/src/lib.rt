@@ -3,6 +3,7 @@ mod block;
 mod directory;
 mod fields;
 mod list;
+mod words;
 
 ghost use mathlib.Core.Path.{_≡_};
 ghost use Prim.Native.Nat.{ℕ, _-_, _*_, _≤_, _<_};

@@ -17,8 +17,8 @@ pub enum Blocks {
 }
 
 // The blocks of `count` postings from bit `start` on.
-pub fn judge_blocks(image: &[u8], docs: u64, start: usize, count: usize) -> Blocks
-    requires { ⌜ (docs < 16777216) × (length (now image) < 16777216) × (start ≤ 8 * length (now image)) ⌝ }
+pub fn judge_blocks(image: &[u8], docs: u64, start: usize, count: usize, room: &mut [u64]) -> Blocks
+    requires { ⌜ (docs < 16777216) × (length (now image) < 16777216) × (start ≤ 8 * length (now image)) × (length (now room) ≡ 128) ⌝ }
     ensures { λ r. ⌜ ((t : ℕ) → blocksSay t r ≡ keep endedOf (blocksAt (now (image .entry)) docs t count start 0 count)) ⌝ }
 {
     let mut bit = start;
@@ -27,7 +27,7 @@ pub fn judge_blocks(image: &[u8], docs: u64, start: usize, count: usize) -> Bloc
     let mut top: u64 = 0;
     while 0 < left {
         let byte = bit / 8;
-        let found = judge_block(&image[byte..], docs, bit % 8, next, left);
+        let found = judge_block(&image[byte..], docs, bit % 8, next, left, room);
         match found {
             Block::Wrong(number) => {
                 return Blocks::Wrong(number);

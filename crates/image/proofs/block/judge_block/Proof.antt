@@ -6,7 +6,7 @@ use native.Mathlib.Omega.{arith}
 use lib.Dec.{leb}
 use lib.ListN.{length}
 use borrow.Author.Needs.{needs}
-use borrow.Author.Tests.{le-leb, lt-leb, eq-eqb, ne-eqb}
+use borrow.Author.Tests.{le-leb, lt-leb, not-true, not-false}
 use Rattle.meaning.specs.Judged.{bad, _>>=_}
 use Rattle.meaning.specs.Layout.{sizeOf}
 use Rattle.meaning.specs.Image.{blockAt}
@@ -19,7 +19,7 @@ use Rattle.image.proofs.block.judge_block.Tie as tie
 
 small : (c : tie.After-read-head) → Small (headFields (c .read-head .result))
 small c =
-    let a = c .before .before .before .args in
+    let a = c .before .before .before .before .args in
     head-small (a .part .now) (a .shift) (headFields (c .read-head .result)) (c .read-head .ensures)
 
 size : (c : tie.After-read-head) → c .read-head .result .width ≤ 24 → c .read-head .result .count * (c .read-head .result .width + 8) ≤ 4096
@@ -31,25 +31,25 @@ width c = c .read-head .result .width
 -- refusal 5 where a head is there
 odd :
     (c : tie.After-read-head) (t : ℕ) →
-    let a = c .before .before .before .args in
+    let a = c .before .before .before .before .args in
     let h = headFields (c .read-head .result) in
     (leb (h .width) 24 && leb (h .count) (a .left) && leb (a .shift + sizeOf h) (8 * length (a .part .now))) ≡ false →
     bad 5 t ≡ keep (takenOf (a .shift) (a .next)) (blockAt (a .part .now) (a .docs) t (a .shift) (a .next) (a .left))
 odd c t e =
-    let a = c .before .before .before .args in
+    let a = c .before .before .before .before .args in
     ap (keep (takenOf (a .shift) (a .next)))
     (sym (block-odd (a .part .now) (a .docs) t (a .shift) (a .next) (a .left) (headFields (c .read-head .result)) (c .read-head .ensures) (omega arith) e))
 
 -- what the meaning says of the block, by what was found of its postings
 body :
     (c : tie.After-judge-postings) (t : ℕ) (r : Postings) → c .judge-postings .result ≡ r →
-    let h = c .before .before .before .before in
-    let a = h .before .before .before .args in
+    let h = c .before .before .before .before .before in
+    let a = h .before .before .before .before .args in
     keep (takenOf (a .shift) (a .next)) (blockAt (a .part .now) (a .docs) t (a .shift) (a .next) (a .left))
     ≡ (postingsSay t r >>= closing t (headFields (h .read-head .result)))
 body c t r e =
-    let h = c .before .before .before .before in
-    let a = h .before .before .before .args in
+    let h = c .before .before .before .before .before in
+    let a = h .before .before .before .before .args in
     let head = headFields (h .read-head .result) in
     block-there (a .part .now) (a .docs) t (a .shift) (a .next) (a .left) head (h .read-head .ensures) (omega arith)
     (omega arith) (omega arith) (omega arith) (postingsSay t r) (ap (postingsSay t) (sym e) ∙ c .judge-postings .ensures t)
@@ -62,7 +62,7 @@ add-if1 c = search needs
 
 returns : tie.Need-returns
 returns c t =
-    let a = c .before .before .args in
+    let a = c .before .before .before .args in
     ap (keep (takenOf (a .shift) (a .next))) (sym (block-cut (a .part .now) (a .docs) t (a .shift) (a .next) (a .left) (omega arith)))
 
 read-head-requires : tie.Need-read-head-requires
@@ -93,7 +93,21 @@ add-judge-postings : tie.Need-add-judge-postings
 add-judge-postings c = search needs
 
 judge-postings-requires : tie.Need-judge-postings-requires
-judge-postings-requires c κs = search needs
+judge-postings-requires c κs =
+    let h = c .before .before .before .before in
+    let g = small h in
+    let s = h .before .before .before .before in
+    record {
+      docs = s .pre .0;
+      width = omega arith;
+      below = s .pre .2;
+      bytes = s .pre .3;
+      head = omega arith;
+      few = g .few;
+      inside = omega (arith, size h (omega arith));
+      largest = g .largest;
+      room = s .pre .4;
+    }
 
 enum-told : tie.Need-enum-told
 enum-told c = search needs
@@ -101,20 +115,30 @@ enum-told c = search needs
 enum-known-found : tie.Need-enum-known-found
 enum-known-found c = search needs
 
-add-if5 : tie.Need-add-if5
-add-if5 c = omega (arith, small (c .before .before .before .before .before .before .before) .last)
+closes-requires : tie.Need-closes-requires
+closes-requires c κs = small (c .before .before .before .before .before .before .before .before .before .before) .last
+
+same-length : tie.Need-same-length
+same-length c = search needs
 
 returns-5 : tie.Need-returns-5
-returns-5 c t = sym (body (c .before .before .before .before) t _ (c .before .before .found .given .1) ∙ rw (ne-eqb _ _ (c .if5 .taken)))
+returns-5 c t =
+    let l = c .before in
+    sym (body (l .before .before .before .before .before .before) t _ (l .before .before .found .given .1) ∙ rw (sym (l .closes .ensures) ∙ not-true (l .closes .result) (c .if5 .taken)))
+
+same-length-2 : tie.Need-same-length-2
+same-length-2 c = search needs
 
 returns-6 : tie.Need-returns-6
-returns-6 c t = sym (body (c .before .before .before .before .before) t _ (c .before .before .before .found .given .1) ∙ rw (eq-eqb _ _ (c .before .if5 .left), ne-eqb _ _ (c .if6 .taken)))
+returns-6 c t = sym (body (c .before .before .before .before) t _ (c .enum-told .given .1))
+
+same-length-3 : tie.Need-same-length-3
+same-length-3 c = search needs
 
 returns-7 : tie.Need-returns-7
-returns-7 c t = sym (body (c .before .before) t _ (c .enum-told .given .1))
-
-returns-8 : tie.Need-returns-8
-returns-8 c t = sym (body (c .before .before .before .before .before) t _ (c .before .before .before .found .given .1) ∙ rw (eq-eqb _ _ (c .before .if5 .left), eq-eqb _ _ (c .if6 .left)))
+returns-7 c t =
+    let l = c .before in
+    sym (body (l .before .before .before .before .before .before) t _ (l .before .before .found .given .1) ∙ rw (sym (l .closes .ensures) ∙ not-false (l .closes .result) (c .if5 .left)))
 
 pub judge-block-spec : {M : Type 1} → statement M
 judge-block-spec =
@@ -135,8 +159,10 @@ judge-block-spec =
     judge-postings-requires
     enum-told
     enum-known-found
-    add-if5
+    closes-requires
+    same-length
     returns-5
+    same-length-2
     returns-6
-    returns-7
-    returns-8)
+    same-length-3
+    returns-7)
