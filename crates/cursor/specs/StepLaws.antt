@@ -1,18 +1,20 @@
 -- Laws of the single steps: each keeps what judging has shown, and leaves of the list what it should.
 use mathlib.Core.Path.{_≡_, refl, sym, ap, _∙_}
 use mathlib.Core.List.{List, [], _∷_, _++_}
-use Prim.Native.Nat.{ℕ, zero, suc, _+_, _*_, _-_, _≤_, _<_}
+use Prim.Native.Nat.{ℕ, zero, suc, _+_, _*_, _-_, _/_, _%_, _^_, _≤_, _<_}
 use native.Mathlib.Omega.{arith}
 use lib.ListN.{length}
 use Rattle.lists.specs.Tests.{by-zero}
+use Rattle.meaning.specs.Bits.{bitsAt}
 use Rattle.meaning.specs.BitsLaws.{bits-lt}
 use Rattle.meaning.specs.Layout.{headAt}
 use Rattle.meaning.specs.Image.{Posting, Part, nextOf}
 use Rattle.meaning.specs.ImageFits.{PostingsFit, BlocksFit, joined}
 use Rattle.meaning.specs.ImageLaws.{Rising}
+use Rattle.bits.specs.BitsSplit.{bits-first, bits-second}
 use Rattle.cursor.specs.Left.{aheadOf, leftOf, notBelow, blockEnd}
 use Rattle.cursor.specs.Sound.{Ready, Current, Sound}
-use Rattle.cursor.specs.Steps.{takenAt, openedAt, endedAt}
+use Rattle.cursor.specs.Steps.{takenBy, takenAt, openedAt, endedAt}
 use Rattle.cursor.specs.PostingLaws.{rising-tail, rising-from, next-least, next-most, below-row, below-drop, below-keeps}
 use Rattle.cursor.specs.CursorLaws.{ahead-is, at-end, left-is, left-rising}
 use Rattle.cursor.specs.declared.Cursor.{Cursor}
@@ -21,6 +23,14 @@ use Rattle.cursor.specs.declared.Cursor.{Cursor}
 one-more : (n w : ℕ) → 0 < n → n * w ≡ w + (n - 1) * w
 one-more zero w h = absurd (omega arith)
 one-more (suc n) w h = let e : suc n - 1 ≡ n = omega arith in rw e (omega arith)
+
+-- a posting's two fields, out of the number x that its bits are
+pub taken-fields : (s : List ℕ) (c : Cursor) (x : ℕ) → 8 ≤ c .step → x ≡ bitsAt s (c .at) (c .step) → takenBy c (x / 2 ^ 8) (x % 2 ^ 8) ≡ takenAt s c
+taken-fields s c x h e =
+    let w : c .step - 8 + 8 ≡ c .step = omega arith in
+    let gap = rw w at (bits-first s (c .at) (c .step - 8) 8) in
+    let impact = rw w at (bits-second s (c .at) (c .step - 8) 8) in
+    rw (e, gap, impact)
 
 -- the next posting is inside the image, and taking it leaves what was ahead
 pub record Taking (s : List ℕ) (N : ℕ) (c : Cursor) : Type 0 where

@@ -1,3 +1,4 @@
 pub mod Scoring
 pub mod Looking
 pub mod Walking
+pub mod Postings

@@ -1,11 +1,11 @@
 -- The loop of the look-ups: "from rank j down to 1: if the sum so far plus P(i) is at most the bar, the document is dropped; else the
 -- mention at rank i is looked up and scored if it holds the document".
-use mathlib.Core.Path.{_≡_, refl, sym, _∙_}
+use mathlib.Core.Path.{_≡_, refl, sym, ap, _∙_}
 use mathlib.Core.List.{List}
 use Prim.Native.Nat.{ℕ, _+_, _*_, _-_, _≤_, _<_}
 use native.Mathlib.Omega.{arith}
 use lib.ListN.{length, getD, set, drop, length-set}
-use lib.Seq.{set-getD}
+use lib.Seq.{set-getD, getD-set-other}
 use mir.Syntax.{w32}
 use mir.Val.{Fits}
 use Rattle.meaning.specs.Score as sc
@@ -15,10 +15,9 @@ use Rattle.mentions.specs.declared.Mention.{Mention}
 use Rattle.mentions.specs.declared.Tally.{Tally}
 use Rattle.mentions.specs.Mentions.{none, meant}
 use Rattle.walk.specs.Stand.{Stands, Lags, Goes, Placed}
-use Rattle.walk.specs.Walk.{meantOf}
 use Rattle.walk.specs.StandLaws.{stands-later, goes-same}
 use Rattle.walk.specs.PlacedLaws.{placed-P, placed-looked}
-use Rattle.walk.proofs.Scoring.{Site, Scored, Scoring, scored-fits, scoring-meant, all-scored}
+use Rattle.walk.proofs.Scoring.{Site, Scored, Scoring, scored-fits, all-scored}
 
 -- the loop's state: the look-ups go on from rank i as the written ones, with the postings scored before the document left out
 pub record Looking (s : List ℕ) (os : List sc.Mention) (pre : List ℕ) (bar j q past count : ℕ) (ms : List Mention) (t : Tally) (i : ℕ) : Type 0 where
@@ -31,13 +30,12 @@ pub record Looking (s : List ℕ) (os : List sc.Mention) (pre : List ℕ) (bar j
   pub sum-fits : t .sum ≤ 65025 * (q - i)
   pub count-fits : t .count ≤ count + (q - i)
 
-pub looking-first : {s : List ℕ} {os : List sc.Mention} {pre : List ℕ} {bar j q past count : ℕ} {ms : List Mention} {t : Tally} {next i : ℕ} →
-    Scoring s os pre j q past count ms t next i → q ≤ i → Looking s (meantOf s q ms) pre bar j q past count ms t j
+pub looking-first : {s : List ℕ} {os : List sc.Mention} {pre : List ℕ} {bar j q past count : ℕ} {ms : List Mention} {t : Tally} {i : ℕ} →
+    Scoring s os pre j q past count ms t i → q ≤ i → Looking s os pre bar j q past count ms t j
 looking-first {s} {os} {pre} {bar} {j} {q} {past} {count} {ms} {t} x end =
     let a = all-scored x end in
     let kept : t .count - count ≡ sc.holders (drop j os) (past - 1) = omega (arith, a .count) in
-    rw (scoring-meant x)
-    (record {
+    record {
       site = x .site;
       low = omega arith;
       long = x .long;
@@ -46,7 +44,7 @@ looking-first {s} {os} {pre} {bar} {j} {q} {past} {count} {ms} {t} x end =
       tally = rw (a .sum, kept) (sym (visited os bar (past - 1) j (x .site .held)));
       sum-fits = omega (arith, x .sum-fits, x .high);
       count-fits = omega (arith, x .count-fits, x .high);
-    })
+    }
 
 -- mention k at its look-up: sought, or where it was
 pub record Found (s : List ℕ) (past : ℕ) (ms : List Mention) (k : ℕ) (ns : List Mention) (m : Mention) : Type 0 where
@@ -95,6 +93,11 @@ module _ {s : List ℕ} {os : List sc.Mention} {pre : List ℕ} {bar j q past co
           same = refl;
           stored = stored ∙ sym (set-getD ms (i - 1) none);
         })
+
+    -- either way the mentions above rank j stay
+    pub found-aside : {m : Mention} {ns : List Mention} → Found s past ms (i - 1) ns m → (y : ℕ) → j ≤ y → getD ns y none ≡ getD ms y none
+    found-aside {m} f y g =
+        ap (λ (l : List Mention). getD l y none) (f .stored) ∙ getD-set-other ms (i - 1) y m none (λ e. omega (arith, x .low))
 
     -- and scored where its posting is the document's
     pub look-scores : {m : Mention} {ns : List Mention} → Found s past ms (i - 1) ns m → m .cursor .past ≡ past →

@@ -1,24 +1,22 @@
--- The loop over the mentions above rank j: "All such postings are scored", and each mention that was scored has gone on.
+-- A document's postings above rank j, mention by mention: "All such postings are scored", and each mention that was scored has gone on.
 use mathlib.Core.Path.{_≡_, refl, sym, ap, subst, _∙_}
 use mathlib.Core.List.{List, []}
-use Prim.Native.Nat.{ℕ, suc, _+_, _*_, _-_, _≤_, _<_, min}
+use Prim.Native.Nat.{ℕ, zero, suc, _+_, _*_, _-_, _≤_, _<_}
 use native.Mathlib.Omega.{arith}
 use native.Mathlib.Numerals.{add-one}
 use lib.ListN.{length, getD, set, drop, length-set, drop-of-length-le}
-use lib.Seq.{drop-cons, set-getD, getD-set-same}
+use lib.Seq.{drop-cons, set-getD}
 use mir.Syntax.{w64}
 use mir.Val.{Fits}
 use Rattle.meaning.specs.Image.{indexOf}
 use Rattle.meaning.specs.Score as sc
 use Rattle.meaning.specs.Cost.{P, noMention}
-use Rattle.cursor.specs.Left.{notBelow}
 use Rattle.mentions.specs.declared.Mention.{Mention}
 use Rattle.mentions.specs.declared.Tally.{Tally}
 use Rattle.mentions.specs.Mentions.{none, meant}
-use Rattle.walk.specs.Stand.{pastOf, nextAt, docOf, Stands, Goes, Placed}
+use Rattle.walk.specs.Stand.{docOf, Stands, Goes, Placed}
 use Rattle.walk.specs.Walk.{meantOf}
-use Rattle.walk.specs.NextLaws.{next-fits}
-use Rattle.walk.specs.StandLaws.{stands-past, stands-later, stands-after, stands-hit, stands-miss, stands-fits, goes-same}
+use Rattle.walk.specs.StandLaws.{stands-later, stands-after, stands-hit, stands-miss, stands-fits, goes-same}
 use Rattle.walk.specs.PlacedLaws.{placed-meant, placed-on}
 
 -- the visited document, past - 1, before which `count` postings were scored
@@ -72,8 +70,8 @@ module _ {s : List ℕ} {os : List sc.Mention} {pre : List ℕ} {j q past count 
       let count = ap (λ (r : Tally). r .count) h in
       record { sum = omega (arith, x .0); count = omega (arith, x .1); sum-fits = omega arith; count-fits = omega arith }
 
--- the loop's state: the mentions from j up to i are scored, and `next` is the lowest document of those that have gone on
-pub record Scoring (s : List ℕ) (os : List sc.Mention) (pre : List ℕ) (j q past count : ℕ) (ms : List Mention) (t : Tally) (next i : ℕ) : Type 0 where
+-- the mentions from j up to i are scored
+pub record Scoring (s : List ℕ) (os : List sc.Mention) (pre : List ℕ) (j q past count : ℕ) (ms : List Mention) (t : Tally) (i : ℕ) : Type 0 where
   pub site : Site s os pre j q past count
   pub low : j ≤ i
   pub high : i ≤ q
@@ -81,14 +79,12 @@ pub record Scoring (s : List ℕ) (os : List sc.Mention) (pre : List ℕ) (j q p
   pub placed : Placed s os j i (past - 1) ms
   pub sums : t .sum + sc.score (drop i os) (past - 1) ≡ sc.score (drop j os) (past - 1)
   pub counts : t .count + sc.holders (drop i os) (past - 1) ≡ count + sc.holders (drop j os) (past - 1)
-  pub least : min next (nextAt (drop i os) past) ≡ nextAt (drop j os) past
   pub sum-fits : t .sum ≤ 65025 * (i - j)
   pub count-fits : t .count ≤ count + (i - j)
-  pub next-fits : next ≤ 4294967295
 
 pub scoring-first : {s : List ℕ} {os : List sc.Mention} {pre : List ℕ} {j q past count : ℕ} {ms : List Mention} → Site s os pre j q past count → length ms ≡ 16 →
-    Placed s os j j (past - 1) ms → Scoring s os pre j q past count ms (record { sum = 0; count = count }) 4294967295 j
-scoring-first {os = os} {j = j} {past = past} site long placed =
+    Placed s os j j (past - 1) ms → Scoring s os pre j q past count ms (record { sum = 0; count = count }) j
+scoring-first site long placed =
     record {
       site = site;
       low = omega arith;
@@ -97,10 +93,8 @@ scoring-first {os = os} {j = j} {past = past} site long placed =
       placed = placed;
       sums = omega arith;
       counts = refl;
-      least = omega (arith, next-fits (drop j os) past);
       sum-fits = omega arith;
       count-fits = omega arith;
-      next-fits = omega arith;
     }
 
 -- mention i at its turn: scored and gone on, or left as it was
@@ -111,12 +105,11 @@ pub record Turned (s : List ℕ) (past : ℕ) (ms : List Mention) (i : ℕ) (t :
   pub stored : ns ≡ set ms i mention
   pub scored : Scored s past (getD ms i none) t u
 
--- every mention above rank j is scored, and the next document is known
-pub record AllScored (os : List sc.Mention) (j past before : ℕ) (t : Tally) (after i : ℕ) : Type 0 where
+-- every mention above rank j is scored
+pub record AllScored (os : List sc.Mention) (j past before : ℕ) (t : Tally) (i : ℕ) : Type 0 where
   pub all : i ≡ length os
   pub sum : t .sum ≡ sc.score (drop j os) (past - 1)
   pub count : t .count ≡ before + sc.holders (drop j os) (past - 1)
-  pub next : after ≡ nextAt (drop j os) past
 
 -- the mentions from i on: the one at i, and those after it
 module _ (os : List sc.Mention) (i : ℕ) (lt : i < length os) (d : ℕ) where
@@ -128,11 +121,7 @@ module _ (os : List sc.Mention) (i : ℕ) (lt : i < length os) (d : ℕ) where
   unfolding sc.holders
   drop-holders = rw (add-one, drop-cons os i noMention lt)
 
-  drop-next : nextAt (drop i os) d ≡ min (pastOf (notBelow d (getD os i noMention .postings))) (nextAt (drop (i + 1) os) d)
-  unfolding nextAt
-  drop-next = rw (add-one, drop-cons os i noMention lt)
-
-module _ {s : List ℕ} {os : List sc.Mention} {pre : List ℕ} {j q past count : ℕ} {ms : List Mention} {t : Tally} {next i : ℕ} (x : Scoring s os pre j q past count ms t next i) where
+module _ {s : List ℕ} {os : List sc.Mention} {pre : List ℕ} {j q past count : ℕ} {ms : List Mention} {t : Tally} {i : ℕ} (x : Scoring s os pre j q past count ms t i) where
   -- the mentions are those that the array means
   pub scoring-meant : meantOf s q ms ≡ os
   scoring-meant = placed-meant (x .placed) (x .site .whole) (omega (arith, x .long, x .site .few))
@@ -178,13 +167,10 @@ module _ {s : List ℕ} {os : List sc.Mention} {pre : List ℕ} {j q past count 
 
     module _ {ns : List Mention} {u : Tally} (y : Turned s past ms i t ns u) where
       -- the turn's end
-      pub scoring-on : {after : ℕ} → after ≡ min next (getD ns i none .cursor .past) → Scoring s os pre j q past count ns u after (i + 1)
-      scoring-on least =
+      pub scoring-on : Scoring s os pre j q past count ns u (i + 1)
+      scoring-on =
           let there : suc (past - 1) ≡ past = omega (arith, x .site .some) in
           let o = x .placed .means i in-row in
-          let at : getD ns i none ≡ y .mention = ap (λ (l : List Mention). getD l i none) (y .stored) ∙ getD-set-same ms i (y .mention) none in-array in
-          let first : getD ns i none .cursor .past ≡ pastOf (notBelow past (getD os i noMention .postings)) =
-          ap (λ (m : Mention). m .cursor .past) at ∙ stands-past (y .stands) ∙ ap (λ (m : sc.Mention). pastOf (notBelow past (m .postings))) (y .same ∙ o) in
           let sum = rw o at (y .scored .sum) in
           let cnt = rw o at (y .scored .count) in
           record {
@@ -195,20 +181,30 @@ module _ {s : List ℕ} {os : List sc.Mention} {pre : List ℕ} {j q past count 
             placed = rw (y .stored) (placed-on (x .placed) i (y .mention) in-array in-row (y .same) refl (x .low) (rw there (y .stands)));
             sums = omega (arith, x .sums, drop-score os i in-row (past - 1));
             counts = omega (arith, x .counts, drop-holders os i in-row (past - 1));
-            least = omega (arith, x .least, drop-next os i in-row past);
             sum-fits = omega (arith, x .sum-fits, x .low, y .scored .sum-fits);
             count-fits = omega (arith, x .count-fits, x .low, y .scored .count-fits);
-            next-fits = omega (arith, x .next-fits);
           }
 
+    -- a mention that does not hold the document is passed
+    pub scoring-miss : (getD ms i none .cursor .past ≡ past → ⊥) → Scoring s os pre j q past count ms t (i + 1)
+    scoring-miss ne = scoring-on (turned-miss ne refl refl)
+
   -- the loop's end
-  pub all-scored : q ≤ i → AllScored os j past count t next i
-  unfolding sc.score sc.holders nextAt
+  pub all-scored : q ≤ i → AllScored os j past count t i
+  unfolding sc.score sc.holders
   all-scored end =
       let left : drop i os ≡ [] = drop-of-length-le os {i = i} (omega (arith, x .site .whole)) in
       record {
         all = omega (arith, x .site .whole, x .high);
         sum = omega (arith, rw left at (x .sums));
         count = omega (arith, rw left at (x .counts));
-        next = omega (arith, rw left at (x .least), x .next-fits);
       }
+
+-- and so are all up to mention k
+pub scoring-skip : {s : List ℕ} {os : List sc.Mention} {pre : List ℕ} {j q past count : ℕ} {ms : List Mention} {t : Tally} (m : ℕ) {i : ℕ} → Scoring s os pre j q past count ms t i →
+    (k : ℕ) → i + m ≡ k → k ≤ q → ((y : ℕ) → i ≤ y → y < k → getD ms y none .cursor .past ≡ past → ⊥) → Scoring s os pre j q past count ms t k
+scoring-skip {s} {os} {pre} {j} {q} {past} {count} {ms} {t} zero {i} x k e le ne =
+    let here : i ≡ k = omega arith in
+    subst (λ (y : ℕ). Scoring s os pre j q past count ms t y) here x
+scoring-skip (suc m) {i} x k e le ne =
+    scoring-skip m (scoring-miss x (omega arith) (ne i (omega arith) (omega arith))) k (omega arith) le (λ y g l. ne y (omega arith) l)

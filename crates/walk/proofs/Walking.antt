@@ -1,5 +1,5 @@
 -- The loop over documents: the run from the document it is at is the run that was asked for.
-use mathlib.Core.Path.{_≡_, sym, ap, _∙_}
+use mathlib.Core.Path.{_≡_, refl, sym, ap, subst, _∙_}
 use mathlib.Core.List.{List}
 use Prim.Native.Nat.{ℕ, suc, _+_, _*_, _-_, _≤_, _<_}
 use native.Mathlib.Omega.{arith}
@@ -17,11 +17,12 @@ use Rattle.runs.specs.RunLaws.{run-stop, run-enter, run-on, run-skips, run-end}
 use Rattle.mentions.specs.declared.Mention.{Mention}
 use Rattle.mentions.specs.declared.Tally.{Tally}
 use Rattle.walk.specs.Stand.{nextAt, docOf, Placed}
+use Rattle.walk.specs.Keys.{SoundFrom}
 use Rattle.walk.specs.Walk.{meantOf, runOf, runBy, Leaves}
 use Rattle.walk.specs.declared.Visit.{Visit}
 use Rattle.walk.specs.NextLaws.{Rises, doc-none, doc-some, next-none, next-some, next-least, next-most, NextDoc, next-doc}
 use Rattle.walk.specs.PlacedLaws.{placed-meant, placed-rises, placed-next}
-use Rattle.walk.proofs.Scoring.{Site, Scoring, scoring-first}
+use Rattle.walk.proofs.Scoring.{Site}
 use Rattle.walk.proofs.Looking.{Visited}
 
 -- what is ensured of the visit that ends a walk
@@ -39,6 +40,22 @@ pub record Walking (s : List ℕ) (os : List sc.Mention) (pre : List ℕ) (bar j
   pub spare : count ≤ 16 * docOf (indexOf s .docs) past
   pub same : runBy s os bar j q budget past count ≡ run
 
+-- the mentions are those that the array means, and what holds of these and of the run from here holds of those that were asked for
+module _ {s : List ℕ} {os : List sc.Mention} {pre : List ℕ} {bar j q budget : ℕ} {run : Run} {ms : List Mention} {past count : ℕ} (w : Walking s os pre bar j q budget run ms past count) where
+  walking-meant : meantOf s q ms ≡ os
+  walking-meant = placed-meant (w .placed) (w .whole) (omega (arith, w .long, w .few))
+
+  pub walking-own : Walking s (meantOf s q ms) pre bar j q budget (runBy s (meantOf s q ms) bar j q budget past count) ms past count
+  walking-own =
+      rw walking-meant
+      (record { whole = w .whole; few = w .few; rank = w .rank; sums = w .sums; long = w .long; placed = w .placed; next = w .next; spare = w .spare; same = refl })
+
+  pub as-asked : (C : List sc.Mention → Run → Type 0) → C (meantOf s q ms) (runBy s (meantOf s q ms) bar j q budget past count) → C os run
+  as-asked C x = subst (C os) (w .same) (subst (λ (l : List sc.Mention). C l (runBy s l bar j q budget past count)) walking-meant x)
+
+  pub walking-sound : SoundFrom s ms j (q - j)
+  walking-sound x h = w .placed .here (j + x) (omega arith) (omega (arith, w .whole)) .sound
+
 -- with no document left the run is finished
 pub finished : {s : List ℕ} {os : List sc.Mention} {pre : List ℕ} {bar j q budget : ℕ} {run : Run} {ms : List Mention} {past count : ℕ} →
     Walking s os pre bar j q budget run ms past count → past ≡ 4294967295 →
@@ -52,14 +69,12 @@ finished {s} {os} {bar = bar} {j} {q} {budget} {past = past} {count} w e is =
     )
 
 -- else a document is visited
-pub record Visiting (s : List ℕ) (os : List sc.Mention) (pre : List ℕ) (bar j q budget : ℕ) (run : Run) (ms : List Mention) (past count : ℕ) : Type 0 where
+pub record Visiting (s : List ℕ) (os : List sc.Mention) (pre : List ℕ) (bar j q budget : ℕ) (run : Run) (past count : ℕ) : Type 0 where
   pub site : Site s os pre j q past count
-  pub long : length ms ≡ 16
-  pub placed : Placed s os j j (past - 1) ms
   pub same : runFrom (visitAt os bar j) bar q budget (past - 1) count (suc (indexOf s .docs - past)) ≡ run
 
 pub visiting : {s : List ℕ} {os : List sc.Mention} {pre : List ℕ} {bar j q budget : ℕ} {run : Run} {ms : List Mention} {past count : ℕ} →
-    Walking s os pre bar j q budget run ms past count → (past ≡ 4294967295 → ⊥) → Visiting s os pre bar j q budget run ms past count
+    Walking s os pre bar j q budget run ms past count → (past ≡ 4294967295 → ⊥) → Visiting s os pre bar j q budget run past count × Placed s os j j (past - 1) ms
 unfolding nextAt
 visiting {s} {os} {j = j} {q} {ms = ms} {past} w ne =
     by-order j q
@@ -73,39 +88,32 @@ visiting {s} {os} {j = j} {q} {ms = ms} {past} w ne =
     let most = next-most N docs (drop j os) rises (past - 1) (λ z. ne (e ∙ z)) in
     let least = next-least N docs (drop j os) rises (past - 1) (omega arith) in
     let there : suc (past - 1) ≡ past = omega arith in
-    let left : N - (past - 1) ≡ suc (N - past) = omega arith in
-    record {
-      site = record {
-        whole = w .whole;
-        few = w .few;
-        rank = w .rank;
-        sums = w .sums;
-        docs = docs;
-        some = omega arith;
-        most = omega arith;
-        at = at;
-        held = next-some N docs (drop j os) rises (past - 1) (sym e ∙ sym there) (omega arith);
-        spare = omega (arith, w .spare);
-      };
-      long = w .long;
-      placed = p;
-      same = rw (at, left) at (w .same);
-    })
+    let left : N - (past - 1) ≡ suc (N - past) = omega arith in (
+      record {
+        site = record {
+          whole = w .whole;
+          few = w .few;
+          rank = w .rank;
+          sums = w .sums;
+          docs = docs;
+          some = omega arith;
+          most = omega arith;
+          at = at;
+          held = next-some N docs (drop j os) rises (past - 1) (sym e ∙ sym there) (omega arith);
+          spare = omega (arith, w .spare);
+        };
+        same = rw (at, left) at (w .same);
+      },
+      p,
+    ))
     (λ ge. absurd (ne (w .next ∙ rw (drop-of-length-le os {i = j} (omega (arith, w .whole))))))
 
-module _ {s : List ℕ} {os : List sc.Mention} {pre : List ℕ} {bar j q budget : ℕ} {run : Run} {ms : List Mention} {past count : ℕ} (v : Visiting s os pre bar j q budget run ms past count) where
-  -- the mentions are those that the array means
-  pub visiting-meant : meantOf s q ms ≡ os
-  visiting-meant = placed-meant (v .placed) (v .site .whole) (omega (arith, v .long, v .site .few))
-
-  pub scoring-starts : Scoring s (meantOf s q ms) pre j q past count ms (record { sum = 0; count = count }) 4294967295 j
-  scoring-starts = rw visiting-meant (scoring-first (v .site) (v .long) (v .placed))
-
+module _ {s : List ℕ} {os : List sc.Mention} {pre : List ℕ} {bar j q budget : ℕ} {run : Run} {past count : ℕ} (v : Visiting s os pre bar j q budget run past count) where
   costs : 0 < visitAt os bar j (past - 1) .count
   costs = visit-some os bar (past - 1) j (omega (arith, v .site .rank, v .site .whole)) (v .site .held)
 
   -- the run stops before the document
-  pub stopped : budget < count + q → {r : Visit} → r ≡ record { ms = ms; turn = Stopped; past = past; sum = 0; count = count; next = past } → Ends s os j run r
+  pub stopped : budget < count + q → {ms : List Mention} {r : Visit} → r ≡ record { ms = ms; turn = Stopped; past = past; sum = 0; count = count; next = past } → Ends s os j run r
   stopped h is =
       rw is (
         rw (v .site .at) (sym (run-stop (visitAt os bar j) bar q budget (past - 1) count _ costs h) ∙ v .same),
@@ -145,8 +153,11 @@ module _ {s : List ℕ} {os : List sc.Mention} {pre : List ℕ} {bar j q budget 
       to-next : NextDoc (indexOf s .docs) (v .site .docs) (drop j os) past next (docOf (indexOf s .docs) next)
       to-next = next-doc (indexOf s .docs) (v .site .docs) (drop j os) rises past next (v .site .most) e
 
-      pub going-falls : indexOf s .docs - docOf (indexOf s .docs) next < indexOf s .docs - docOf (indexOf s .docs) past
-      going-falls = omega (arith, to-next .later, to-next .most, v .site .at, v .site .some)
+      pub going-falls : {from : ℕ} → docOf (indexOf s .docs) from ≡ from - 1 → from ≤ past → indexOf s .docs - docOf (indexOf s .docs) next < indexOf s .docs - docOf (indexOf s .docs) from
+      going-falls at le = omega (arith, to-next .later, to-next .most, v .site .some)
+
+      pub going-up : (next ≡ 4294967295 → ⊥) → past ≤ next
+      going-up ne = omega (arith, to-next .later, doc-some (indexOf s .docs) next ne)
 
       skips : (y : ℕ) → past ≤ y → y < docOf (indexOf s .docs) next → visitAt os bar j y .count ≡ 0
       skips y g l =

@@ -4,3 +4,5 @@ pub mod NextLaws
 pub mod StandLaws
 pub mod PlacedLaws
 pub mod StartLaws
+pub mod Keys
+pub mod KeyLaws

@@ -132,12 +132,17 @@ module _ (N : ℕ) (few : N < 16777216) where
       let ne = eqb-false past 4294967295 b in
       at (past - 1) (doc-some N past ne) (omega arith) (omega arith) (omega (arith, next-most os r d (λ z. ne (omega arith)))))
 
--- none of the mentions stands before it, and where there is none its number is 4294967295
+-- none of the mentions stands before it, a number that none stands before is at most it, and where there is none its number is 4294967295
 pub next-under : (os : List Mention) (d x : ℕ) → x < length os → nextAt os d ≤ pastOf (notBelow d (getD os x noMention .postings))
 unfolding nextAt
 next-under [] d x h = absurd (omega arith)
 next-under (m ∷ os) d zero h = omega arith
 next-under (m ∷ os) d (suc x) h = omega (arith, next-under os d x (omega arith))
+
+pub next-over : (os : List Mention) (d h : ℕ) → h ≤ 4294967295 → ((x : ℕ) → x < length os → h ≤ pastOf (notBelow d (getD os x noMention .postings))) → h ≤ nextAt os d
+unfolding nextAt
+next-over [] d h le f = le
+next-over (m ∷ os) d h le f = omega (arith, f 0 (omega arith), next-over os d h le (λ x l. f (suc x) (omega arith)))
 
 pub next-fits : (os : List Mention) (d : ℕ) → nextAt os d ≤ 4294967295
 unfolding nextAt

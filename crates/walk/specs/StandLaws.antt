@@ -15,7 +15,9 @@ use Rattle.cursor.specs.declared.Cursor.{Cursor}
 use Rattle.cursor.specs.Left.{leftOf, notBelow}
 use Rattle.cursor.specs.Sound.{Sound}
 use Rattle.cursor.specs.PostingLaws.{below-below, below-next, below-impact, impact-first}
-use Rattle.cursor.specs.CursorLaws.{at-end, at-head}
+use Rattle.cursor.specs.CursorLaws.{at-end, at-head, ahead-left}
+use Rattle.cursor.specs.Steps.{takenAt}
+use Rattle.cursor.specs.StepLaws.{taking}
 use Rattle.mentions.specs.declared.Mention.{Mention}
 use Rattle.mentions.specs.Mentions.{meant}
 use Rattle.walk.specs.Stand.{pastOf, Fair, Stands, Lags, Goes}
@@ -43,9 +45,12 @@ module _ {s : List ℕ} {d : ℕ} {m : Mention} (st : Stands s d m) where
         at = st .at ∙ below-stays (indexOf s .docs) (st .sound .ready .few) (meant s m .postings) (st .fair .rises) d e h (omega (arith, stands-past));
       }
 
-  -- where that posting is not d's it is a later one
+  -- that posting is at d or later, and where it is not d's it is a later one
+  pub stands-least : d ≤ indexOf s .docs → d < m .cursor .past
+  stands-least h = omega (arith, stands-past, below-least (indexOf s .docs) (st .sound .ready .few) (meant s m .postings) (st .fair .rises) d h)
+
   pub stands-after : (m .cursor .past ≡ suc d → ⊥) → d ≤ indexOf s .docs → suc d < m .cursor .past
-  stands-after ne h = omega (arith, stands-past, below-least (indexOf s .docs) (st .sound .ready .few) (meant s m .postings) (st .fair .rises) d h)
+  stands-after ne h = omega (arith, stands-least h)
 
   stands-impact : m .cursor .past ≡ suc d → (m .cursor .past ≡ 4294967295 → ⊥) → impactAt (meant s m .postings) d ≡ m .cursor .impact
   stands-impact e ne =
@@ -106,3 +111,10 @@ module _ {s : List ℕ} (m : Mention) {c : Cursor} (sound : Sound s (indexOf s .
   pub goes-sought : {d : ℕ} → Lags s d m → leftOf s c ≡ notBelow d (leftOf s (m .cursor)) →
       Goes s d m (record { list = m .list; weight = m .weight; ceiling = m .ceiling; cursor = c })
   goes-sought {d} l e = goes-to (l .2 .fair) (e ∙ ap (notBelow d) (l .2 .at) ∙ below-below (meant s m .postings) (l .0) d (l .1))
+
+-- at the next posting of its block
+pub goes-taken : {s : List ℕ} (m : Mention) → Stands s (m .cursor .past - 1) m → (m .cursor .past ≡ 4294967295 → ⊥) → 0 < m .cursor .rest →
+    Goes s (m .cursor .past) m (record { list = m .list; weight = m .weight; ceiling = m .ceiling; cursor = takenAt s (m .cursor) })
+goes-taken {s} m st ne some =
+    let t = taking s (indexOf s .docs) (m .cursor) (st .sound .ready) some in
+    goes-next m (t .sound) st ne (t .left ∙ ahead-left s (m .cursor) ne)

@@ -1,17 +1,26 @@
 // The walk of modes 0 and 1: document at a time over the mentions' cursors. "A document is visited if a mention above rank j holds it. All
 // such postings are scored. Then, from rank j down to 1 .." The array of mentions goes in by value and comes back with the visit.
+use cursor::Cursor;
 use mentions::Mention;
 use mentions::Tally;
 use runs::Turn;
 ghost use mathlib.Core.Path.{_≡_};
-ghost use Prim.Native.Nat.{_+_, _-_, _≤_, _<_, min};
+ghost use mathlib.Core.Logic.{_⊎_};
+ghost use mathlib.Core.Bool.{true, false};
+ghost use Prim.Native.Nat.{_+_, _-_, _/_, _%_, _≤_, _<_};
 ghost use Rattle.runs.specs.declared.Turn.the-variants.{Entered};
 ghost use Rattle.meaning.specs.Image.{indexOf};
+ghost use Rattle.cursor.specs.Sound.{Sound};
+ghost use Rattle.cursor.specs.Steps.{takenAt};
+ghost use Rattle.walk.specs.Keys.{keyOf, SoundFrom, Blank, Keyed};
 ghost use Rattle.walk.specs.Stand.{Stands, Lags, Goes};
 ghost use Rattle.walk.specs.Walk.{meantOf, Starts, runOf, runBy, Leaves};
 
 // No document: it stands after every other.
 pub const DONE: u32 = 4294967295;
+
+// No key.
+const NONE: u64 = 18446744073709551615;
 
 // How a walk ended, with the mentions where it left them: the document plus one, its sum, the postings scored up to then, and the next
 // document plus one.
@@ -22,6 +31,12 @@ pub struct Visit {
     pub sum: u32,
     pub count: u32,
     pub next: u32,
+}
+
+// A mention that has gone on, and its posting's key.
+struct Onward {
+    pub mention: Mention,
+    pub key: u64,
 }
 
 // A walk that ends.
@@ -38,22 +53,68 @@ pub fn ended(ms: [Mention; 16], turn: Turn, past: u32, sum: u32, count: u32, nex
     }
 }
 
-// A mention that goes on past its document, in a block that has another posting.
-fn took(image: &[u8], m: Mention) -> Mention
-    requires { ⌜ Stands (now image) (m .cursor .past - 1) m × (m .cursor .past ≡ 4294967295 → ⊥) × (0 < m .cursor .rest) ⌝ }
-    ensures { λ r. ⌜ Goes (now (image .entry)) (m .cursor .past) m r ⌝ }
+// A posting as one number, by which postings are ordered by document and then by mention: the document plus one, the mention's place above
+// rank j, and the impact.
+fn key(c: Cursor, p: usize) -> u64
+    requires { ⌜ p < 16 ⌝ }
+    ensures { λ r. ⌜ r ≡ keyOf c p ⌝ }
 {
-    let c = cursor::take_next(image, m.cursor);
+    (c.past as u64) * 4096 + (p as u64) * 256 + (c.impact as u64) % 256
+}
+
+// The same of the posting after the current one, in a block that has one.
+fn next_key(image: &[u8], c: Cursor, p: usize) -> u64
+    requires { ⌜ Sound (now image) (indexOf (now image) .docs) c × (p < 16) ⌝ }
+    ensures { λ r. ⌜ (0 < c .rest → r ≡ keyOf (takenAt (now (image .entry)) c) p) ⌝ }
+{
+    if c.rest == 0 {
+        return 0;
+    }
+    cursor::peek(image, c) + (p as u64) * 256
+}
+
+// A mention that goes on past its document, in a block that has another posting, whose key is known.
+fn moved(image: &[u8], m: Mention, next: u64) -> Mention
+    requires { ⌜ Stands (now image) (m .cursor .past - 1) m
+        × (m .cursor .past ≡ 4294967295 → ⊥)
+        × (0 < m .cursor .rest)
+        × (next / 4096 ≡ takenAt (now image) (m .cursor) .past)
+        × (next % 256 ≡ takenAt (now image) (m .cursor) .impact) ⌝ }
+    ensures { λ r. ⌜ Goes (now (image .entry)) (m .cursor .past) m r × (r .cursor ≡ takenAt (now (image .entry)) (m .cursor)) ⌝ }
+{
+    let c = cursor::take_known(image, m.cursor, (next / 4096) as u32, (next % 256) as u32);
     Mention { cursor: c, ..m }
 }
 
-// The same in a block that has none: it goes to the next block, or to the end of its list.
+// A mention that goes on in a block that has no other posting: it goes to the next block, or to the end of its list.
 fn turned(image: &[u8], m: Mention) -> Mention
     requires { ⌜ Stands (now image) (m .cursor .past - 1) m × (m .cursor .past ≡ 4294967295 → ⊥) × (m .cursor .rest ≡ 0) ⌝ }
     ensures { λ r. ⌜ Goes (now (image .entry)) (m .cursor .past) m r ⌝ }
 {
     let c = cursor::turn_block(image, m.cursor);
     Mention { cursor: c, ..m }
+}
+
+// A mention that goes on past its document, and its key there; that of its next posting is known where its block has one.
+fn gone(image: &[u8], m: Mention, p: usize, next: u64) -> Onward
+    requires { ⌜ Stands (now image) (m .cursor .past - 1) m
+        × (m .cursor .past ≡ 4294967295 → ⊥)
+        × (p < 16)
+        × (0 < m .cursor .rest → next ≡ keyOf (takenAt (now image) (m .cursor)) p) ⌝ }
+    ensures { λ r. ⌜ Goes (now (image .entry)) (m .cursor .past) m (r .mention) × (r .key ≡ keyOf (r .mention .cursor) p) ⌝ }
+{
+    if m.cursor.rest == 0 {
+        let t = turned(image, m);
+        return Onward {
+            mention: t,
+            key: key(t.cursor, p),
+        };
+    }
+    let t = moved(image, m, next);
+    Onward {
+        mention: t,
+        key: next,
+    }
 }
 
 // A mention that was set aside, at its first posting from a document on.
@@ -65,11 +126,59 @@ pub fn sought(image: &[u8], m: Mention, past: u32) -> Mention
     Mention { cursor: c, ..m }
 }
 
-// The lower of two numbers.
-fn lower(a: u32, b: u32) -> u32
-    ensures { λ r. ⌜ r ≡ min a b ⌝ }
+// The keys of the mentions above rank j, entered one by one, and of the postings after theirs. The lowest of all.
+fn begin(
+    image: &[u8],
+    ms: [Mention; 16],
+    j: usize,
+    n: usize,
+    a: &mut [u64],
+    b: &mut [u64],
+    c: &mut [u64],
+    d: &mut [u64],
+    next: &mut [u64],
+) -> u64
+    requires { ⌜ Blank n (now a) (now b) (now c) (now d) (now next) × (j + n ≤ 16) × SoundFrom (now image) ms j n ⌝ }
+    ensures { λ r. ⌜ Keyed (now (image .entry)) ms j n (now (a .exit)) (now (b .exit)) (now (c .exit)) (now (d .exit)) (now (next .exit)) r ⌝ }
 {
-    if b < a { b } else { a }
+    let mut top = NONE;
+    let mut p: usize = 0;
+    while p < n {
+        let m = ms[j + p];
+        next[p] = next_key(image, m.cursor, p);
+        top = contest::enter(a, b, c, d, n, p, key(m.cursor, p));
+        p += 1;
+    }
+    top
+}
+
+// Whether postings are taken on: the one at hand is of the same document, or it is of a document that is visited after one that is dropped.
+fn goes_on(t: Tally, bar: u32, floor: u32, q: usize, budget: u32, top: u64, past: u32) -> bool
+    requires { ⌜ (q ≤ 16) × (t .sum + floor < 4294967296) ⌝ }
+    ensures { λ r. ⌜ (r ≡ true → (top / 4096 ≡ past) ⊎ ((t .sum + floor ≤ bar) × (t .count + q ≤ budget) × (top / 4096 < 4294967295)))
+        × (r ≡ false → top / 4096 ≡ past → ⊥) ⌝ }
+{
+    if t.sum + floor <= bar {
+        if (t.count as u64) + (q as u64) <= (budget as u64) {
+            if top < 17592186040320 {
+                return true;
+            }
+        }
+    }
+    top / 4096 == (past as u64)
+}
+
+// A tally at the next posting's document: as it is where that is the same, else with the sum of a new document.
+fn carried(t: Tally, past: u32, here: u32) -> Tally
+    ensures { λ r. ⌜ (here ≡ past → r ≡ t) × ((here ≡ past → ⊥) → r ≡ record { sum = 0; count = t .count }) ⌝ }
+{
+    if here == past {
+        return t;
+    }
+    Tally {
+        sum: 0,
+        count: t.count,
+    }
 }
 
 // The documents from past - 1 on that a mention above rank j holds, under one bar, with `count` postings scored before them: up to the
@@ -92,30 +201,36 @@ pub fn walk(
     ensures some { λ r. ⌜ 0 < r .past ⌝ }
     ensures leaves { λ r. ⌜ (r .turn ≡ Entered → Leaves (now (image .entry)) (meantOf (now (image .entry)) q ms) j r) ⌝ }
 {
+    let n = q - j;
+    let floor = pre[j];
     let mut ms = ms;
     let mut past = past;
     let mut count = count;
+    let mut a = [NONE; 16];
+    let mut b = [NONE; 8];
+    let mut c = [NONE; 4];
+    let mut d = [NONE; 2];
+    let mut next = [0u64; 16];
+    let mut top = begin(image, ms, j, n, &mut a, &mut b, &mut c, &mut d, &mut next);
     while past != DONE {
         if (budget as u64) < (count as u64) + (q as u64) {
             return ended(ms, Turn::Stopped, past, 0, count, past);
         }
         let mut t = Tally { sum: 0, count };
-        let mut next = DONE;
-        let mut i = j;
-        while i < q {
+        while goes_on(t, bar, floor, q, budget, top, past) {
+            let here = (top / 4096) as u32;
+            let p = (top / 256 % 16) as usize;
+            let i = j + p;
             let m = ms[i];
-            if m.cursor.past == past {
-                t = mentions::scored(t, m.weight, m.cursor.impact);
-                if m.cursor.rest == 0 {
-                    ms[i] = turned(image, m);
-                } else {
-                    ms[i] = took(image, m);
-                }
-            }
-            next = lower(next, ms[i].cursor.past);
-            i += 1;
+            t = mentions::scored(carried(t, past, here), m.weight, m.cursor.impact);
+            past = here;
+            let g = gone(image, m, p, next[p]);
+            let r = g.mention;
+            ms[i] = r;
+            top = contest::enter(&mut a, &mut b, &mut c, &mut d, n, p, g.key);
+            next[p] = next_key(image, r.cursor, p);
         }
-        i = j;
+        let mut i = j;
         while 0 < i && bar < t.sum + pre[i] {
             i -= 1;
             let mut found = ms[i];
@@ -128,10 +243,11 @@ pub fn walk(
             }
         }
         count = t.count;
+        let later = (top / 4096) as u32;
         if bar < t.sum {
-            return ended(ms, Turn::Entered, past, t.sum, count, next);
+            return ended(ms, Turn::Entered, past, t.sum, count, later);
         }
-        past = next;
+        past = later;
     }
     ended(ms, Turn::Finished, past, 0, count, past)
 }

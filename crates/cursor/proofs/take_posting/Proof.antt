@@ -1,30 +1,19 @@
 -- A posting's gap and impact, out of the one number that they are read as.
-use Prim.Native.Nat.{ℕ, _+_, _-_, _/_, _%_, _^_, _≤_, _<_}
+use Prim.Native.Nat.{_+_, _/_, _%_, _^_, _<_}
 use mathlib.Core.Path.{_≡_, ap}
-use mathlib.Core.List.{List}
 use native.Mathlib.Omega.{arith}
-use Rattle.meaning.specs.Bits.{bitsAt}
 use Rattle.meaning.specs.Image.{indexOf}
-use Rattle.bits.specs.BitsSplit.{bits-first, bits-second}
 use Rattle.cursor.specs.Steps.{takenBy, takenAt}
-use Rattle.cursor.specs.StepLaws.{Taking, taking}
+use Rattle.cursor.specs.StepLaws.{Taking, taking, taken-fields}
 use Rattle.cursor.specs.declared.Cursor.{Cursor}
 use Rattle.cursor.proofs.take_posting.Statement.{statement}
 use Rattle.cursor.proofs.take_posting.Tie as tie
-
--- a posting's two fields, out of the number x that its bits are
-fields : (s : List ℕ) (c : Cursor) (x : ℕ) → 8 ≤ c .step → x ≡ bitsAt s (c .at) (c .step) → takenBy c (x / 2 ^ 8) (x % 2 ^ 8) ≡ takenAt s c
-fields s c x h e =
-    let w : c .step - 8 + 8 ≡ c .step = omega arith in
-    let gap = rw w at (bits-first s (c .at) (c .step - 8) 8) in
-    let impact = rw w at (bits-second s (c .at) (c .step - 8) 8) in
-    rw (e, gap, impact)
 
 read : (c : tie.After-bits-at) → let a = c .before .before .args in let x = c .bits-at .result in
     takenBy (a .c) (x / 2 ^ 8) (x % 2 ^ 8) ≡ takenAt (a .image .now) (a .c)
 read c =
     let s = c .before .before in
-    fields (s .args .image .now) (s .args .c) (c .bits-at .result) (s .pre .0 .step-least) (c .bits-at .ensures)
+    taken-fields (s .args .image .now) (s .args .c) (c .bits-at .result) (s .pre .0 .step-least) (c .bits-at .ensures)
 
 next : (c : tie.Start) → Taking (c .args .image .now) (indexOf (c .args .image .now) .docs) (c .args .c)
 next c = taking (c .args .image .now) (indexOf (c .args .image .now) .docs) (c .args .c) (c .pre .0) (c .pre .1)

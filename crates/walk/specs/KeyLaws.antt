@@ -1,0 +1,186 @@
+-- Laws of the keys: what the lowest one tells, and what becomes of them when its mention goes on.
+use mathlib.Core.Path.{_≡_, refl, sym, ap, subst, _∙_}
+use mathlib.Core.List.{List}
+use Prim.Native.Nat.{ℕ, zero, suc, _+_, _*_, _-_, _/_, _%_, _≤_, _<_}
+use native.Mathlib.Omega.{arith}
+use lib.Dec.{eqb}
+use lib.ListN.{length, getD, set, length-set}
+use lib.Seq.{getD-set-same, getD-set-other}
+use borrow.Author.Tests.{eqb-true, eqb-false}
+use Rattle.lists.specs.Tests.{by-test, by-order}
+use Rattle.meaning.specs.Image.{indexOf}
+use Rattle.contest.specs.Contest.{Pairs, Kept, Lowest, Entered}
+use Rattle.cursor.specs.declared.Cursor.{Cursor}
+use Rattle.cursor.specs.Sound.{Sound}
+use Rattle.cursor.specs.Steps.{takenAt}
+use Rattle.cursor.specs.StepLaws.{taking}
+use Rattle.mentions.specs.declared.Mention.{Mention}
+use Rattle.mentions.specs.Mentions.{none}
+use Rattle.walk.specs.Keys.{keyOf, SoundFrom, blanks, Blank, KeyedTo, Keyed}
+
+-- the parts of a key
+pub key-past : (c : Cursor) (p : ℕ) → p < 16 → keyOf c p / 4096 ≡ c .past
+key-past c p h = omega arith
+
+key-place : (c : Cursor) (p : ℕ) → p < 16 → keyOf c p / 256 % 16 ≡ p
+key-place c p h = omega arith
+
+pub key-impact : (c : Cursor) (p : ℕ) → keyOf c p % 256 ≡ c .impact % 256
+key-impact c p = omega arith
+
+-- the next posting of a block, as judging lets it through
+pub taken-current : {s : List ℕ} {N : ℕ} {c : Cursor} → Sound s N c → 0 < c .rest → (takenAt s c .past < 16777216) × (takenAt s c .impact ≤ 255)
+taken-current {s} {N} {c} r some =
+    let t = taking s N c (r .ready) some in
+    let low : takenAt s c .past < 16777216 = omega (arith, t .below, r .ready .few) in
+    (low, t .sound .current (λ e. omega (arith, low)) .byte)
+
+-- no list goes further than its end
+pub sound-most : {s : List ℕ} {N : ℕ} {c : Cursor} → Sound s N c → c .past ≤ 4294967295
+sound-most {c = c} r =
+    by-test (eqb (c .past) 4294967295) (λ b. omega (arith, eqb-true (c .past) 4294967295 b))
+    (λ b. omega (arith, r .current (eqb-false (c .past) 4294967295 b) .below, r .ready .few))
+
+-- place x of a row after place p is changed
+at-place : {A : Type 0} (Q : A → Type 0) (row : List A) (p : ℕ) (v z : A) (x : ℕ) → p < length row → (x ≡ p → Q v) → ((x ≡ p → ⊥) → Q (getD row x z)) → Q (getD (set row p v) x z)
+at-place Q row p v z x lt f g =
+    by-test (eqb x p)
+    (λ b. let e = eqb-true x p b in subst Q (sym (ap (λ (y : ℕ). getD (set row p v) y z) e ∙ getD-set-same row p v z lt)) (f e))
+    (λ b. let ne = eqb-false x p b in subst Q (sym (getD-set-other row p x v z ne)) (g ne))
+
+module _ {s : List ℕ} {ms : List Mention} {j n : ℕ} {a b c d next : List ℕ} {top : ℕ} (k : Keyed s ms j n a b c d next top) (sound : SoundFrom s ms j n) where
+  few : n ≤ 16
+  few = k .kept .few
+
+  -- what the lowest key tells: the mention at its place stands at its document, and no other stands before that or before that mention
+  pub record Top : Type 0 where
+    pub within : top / 256 % 16 < n
+    pub past : getD ms (j + top / 256 % 16) none .cursor .past ≡ top / 4096
+    pub key : getD a (top / 256 % 16) 0 ≡ top
+    pub least : (x : ℕ) → x < n → top / 4096 ≤ getD ms (j + x) none .cursor .past
+    pub first : (x : ℕ) → x < n → getD ms (j + x) none .cursor .past ≡ top / 4096 → top / 256 % 16 ≤ x
+
+  pub top-is : 0 < n → Top
+  top-is some =
+      let y = k .lowest .place in
+      let first = k .lowest .low 0 some in
+      let small = k .keys 0 some in
+      let most = sound-most (sound 0 some) in
+      let in-row : y < 16 = omega (arith, k .lowest .within, k .kept .long .0) in
+      let lt : y < n = by-order y n (λ l. l) (λ g. absurd (omega (arith, k .over y g in-row, k .lowest .is))) in
+      let is : keyOf (getD ms (j + y) none .cursor) y ≡ top = sym (k .keys y lt) ∙ k .lowest .is in
+      let at : top / 256 % 16 ≡ y = rw (← is) (key-place (getD ms (j + y) none .cursor) y (omega (arith, few))) in
+      record {
+        within = rw at lt;
+        past = rw at (rw (← is) (sym (key-past (getD ms (j + y) none .cursor) y (omega (arith, few)))));
+        key = rw at (k .lowest .is);
+        least = λ x h. omega (arith, k .lowest .low x h, k .keys x h, few);
+        first = λ x h e. omega (arith, k .lowest .low x h, k .keys x h, few);
+      }
+
+-- rows with no key
+blank-at : (m x : ℕ) → x < m → getD (blanks m) x 0 ≡ 18446744073709551615
+blank-at zero x h = absurd (omega arith)
+blank-at (suc m) zero h = refl
+blank-at (suc m) (suc x) h = blank-at m x (omega arith)
+
+blank-long : (m : ℕ) → length (blanks m) ≡ m
+blank-long zero = refl
+blank-long (suc m) = ap suc (blank-long m)
+
+blank-pairs : (m : ℕ) → Pairs (blanks (2 * m)) (blanks m)
+blank-pairs m x h =
+    let lt = rw (blank-long m) at h in
+    omega (arith, blank-at m x lt, blank-at (2 * m) (2 * x) (omega arith), blank-at (2 * m) (2 * x + 1) (omega arith))
+
+pub blank-rows : (n : ℕ) → n ≤ 16 → (next : List ℕ) → length next ≡ 16 → Blank n (blanks 16) (blanks 8) (blanks 4) (blanks 2) next
+blank-rows n le next long =
+    record {
+      kept = record { few = le; long = (refl, refl, refl, refl); over-two = λ _. blank-pairs 8; over-four = λ _. blank-pairs 4; over-eight = λ _. blank-pairs 2 };
+      long = long;
+      blank = blank-at 16;
+    }
+
+-- the keys are entered one by one
+pub blank-keyed : {s : List ℕ} {ms : List Mention} {j n : ℕ} {a b c d next : List ℕ} → Blank n a b c d next → KeyedTo 0 s ms j n a b c d next 18446744073709551615
+blank-keyed bl =
+    record {
+      kept = bl .kept;
+      lowest = record { place = 0; within = omega (arith, bl .kept .long .0); is = bl .blank 0 (omega arith); low = λ x h. omega (arith, bl .blank x (omega (arith, bl .kept .few))) };
+      long = bl .long;
+      keys = λ x h. absurd (omega arith);
+      over = λ x g h. bl .blank x h;
+      nexts = λ x h. absurd (omega arith);
+    }
+
+pub keyed-more : {s : List ℕ} {ms : List Mention} {j n p : ℕ} {a b c d next a′ b′ c′ d′ : List ℕ} {top top′ : ℕ} (key v : ℕ) → KeyedTo p s ms j n a b c d next top → p < n →
+    key ≡ keyOf (getD ms (j + p) none .cursor) p → (0 < getD ms (j + p) none .cursor .rest → v ≡ keyOf (takenAt s (getD ms (j + p) none .cursor)) p) →
+    Entered n p key a a′ b′ c′ d′ top′ → KeyedTo (p + 1) s ms j n a′ b′ c′ d′ (set next p v) top′
+keyed-more {s} {ms} {j} {n} {p} {a} {next = next} key v k lt is then e =
+    let in-a : p < length a = omega (arith, k .kept .few, k .kept .long .0) in
+    let in-next : p < length next = omega (arith, k .kept .few, k .long) in
+    record {
+      kept = e .kept;
+      lowest = e .lowest;
+      long = simp length-set (k .long);
+      keys = λ x h. rw (e .stored)
+          (at-place (λ (y : ℕ). y ≡ keyOf (getD ms (j + x) none .cursor) x) a p key 0 x in-a (λ at. rw at is) (λ ne. k .keys x (omega arith)));
+      over = λ x g h. rw (e .stored) (at-place (λ (y : ℕ). y ≡ 18446744073709551615) a p key 0 x in-a (λ at. absurd (omega arith)) (λ ne. k .over x (omega arith) h));
+      nexts = λ x h some.
+          at-place (λ (y : ℕ). y ≡ keyOf (takenAt s (getD ms (j + x) none .cursor)) x) next p v 0 x in-next
+          (λ at. rw at (then (rw at at some))) (λ ne. k .nexts x (omega arith) some);
+    }
+
+pub keyed-all : {s : List ℕ} {ms : List Mention} {j n p : ℕ} {a b c d next : List ℕ} {top : ℕ} → KeyedTo p s ms j n a b c d next top → p ≡ n → Keyed s ms j n a b c d next top
+keyed-all {s} {ms} {j} {n} {a = a} {b} {c} {d} {next} {top} k e = subst (λ (m : ℕ). KeyedTo m s ms j n a b c d next top) e k
+
+-- the mention at place p has gone on to r
+module _ {s : List ℕ} {ms : List Mention} {j n p : ℕ} {a b c d next a′ b′ c′ d′ : List ℕ} {top top′ : ℕ} (key : ℕ)
+    (k : Keyed s ms j n a b c d next top) (lt : p < n) (entered : Entered n p key a a′ b′ c′ d′ top′) where
+  in-row : p < length a
+  in-row = omega (arith, k .kept .few, k .kept .long .0)
+
+  pub keyed-on : (r : Mention) (v : ℕ) → j + p < length ms → key ≡ keyOf (r .cursor) p → (0 < r .cursor .rest → v ≡ keyOf (takenAt s (r .cursor)) p) →
+      Keyed s (set ms (j + p) r) j n a′ b′ c′ d′ (set next p v) top′
+  keyed-on r v in-ms is then =
+      let in-next : p < length next = omega (arith, k .kept .few, k .long) in
+      let here : getD (set ms (j + p) r) (j + p) none ≡ r = getD-set-same ms (j + p) r none in-ms in
+      let other : (x : ℕ) → (x ≡ p → ⊥) → getD (set ms (j + p) r) (j + x) none ≡ getD ms (j + x) none = λ x ne. getD-set-other ms (j + p) (j + x) r none (λ e. ne (omega arith)) in
+      record {
+        kept = entered .kept;
+        lowest = entered .lowest;
+        long = simp length-set (k .long);
+        keys = λ x h. rw (entered .stored)
+            (at-place (λ (y : ℕ). y ≡ keyOf (getD (set ms (j + p) r) (j + x) none .cursor) x) a p key 0 x in-row
+            (λ at. rw (at, here) is) (λ ne. rw (other x ne) (k .keys x h)));
+        over = λ x g h. rw (entered .stored) (at-place (λ (y : ℕ). y ≡ 18446744073709551615) a p key 0 x in-row (λ at. absurd (omega arith)) (λ ne. k .over x g h));
+        nexts = λ x h some.
+            at-place (λ (y : ℕ). y ≡ keyOf (takenAt s (getD (set ms (j + p) r) (j + x) none .cursor)) x) next p v 0 x in-next
+            (λ at. rw (at, here) (then (rw (at, here) at some))) (λ ne. rw (other x ne) (k .nexts x h (rw (other x ne) at some)));
+      }
+
+  -- and the lowest key has risen
+  pub top-rises : p ≡ top / 256 % 16 → top < key → top < 18446744073709551615 → top < top′
+  top-rises at up most =
+      let y = entered .lowest .place in
+      let in-a : y < 16 = omega (arith, entered .lowest .within, entered .kept .long .0) in
+      rw (← (entered .lowest .is), entered .stored)
+      (at-place (λ (v : ℕ). top < v) a p key 0 y in-row (λ e. up) (λ ne.
+      by-order y n
+      (λ l.
+      let is = k .keys y l in
+      omega (arith, k .lowest .low y l, key-place (getD ms (j + y) none .cursor) y in-a))
+      (λ g. omega (arith, k .over y g in-a))))
+
+-- those set aside have no keys
+pub keyed-aside : {s : List ℕ} {ms ns : List Mention} {j n : ℕ} {a b c d next : List ℕ} {top : ℕ} → Keyed s ms j n a b c d next top →
+    ((x : ℕ) → j ≤ x → getD ns x none ≡ getD ms x none) → Keyed s ns j n a b c d next top
+keyed-aside {j = j} k same =
+    record {
+      kept = k .kept;
+      lowest = k .lowest;
+      long = k .long;
+      keys = λ x h. rw (same (j + x) (omega arith)) (k .keys x h);
+      over = k .over;
+      nexts = λ x h some. rw (same (j + x) (omega arith)) (k .nexts x h (rw (same (j + x) (omega arith)) at some));
+    }

@@ -1,0 +1,45 @@
+-- The keys by which the walk finds its next posting: postings are ordered by document, and those of one document by mention. They serve "A
+-- document is visited if a mention above rank j holds it. All such postings are scored."
+use Prim.Native.Nat.{ℕ, zero, suc, _+_, _*_, _/_, _%_, _≤_, _<_}
+use mathlib.Core.Path.{_≡_}
+use mathlib.Core.List.{List, [], _∷_}
+use lib.ListN.{length, getD}
+use Rattle.meaning.specs.Image.{indexOf}
+use Rattle.contest.specs.Contest.{Kept, Lowest}
+use Rattle.cursor.specs.declared.Cursor.{Cursor}
+use Rattle.cursor.specs.Sound.{Sound}
+use Rattle.cursor.specs.Steps.{takenAt}
+use Rattle.mentions.specs.declared.Mention.{Mention}
+use Rattle.mentions.specs.Mentions.{none}
+
+-- a cursor's posting as one number, for place p above rank j
+abbrev pub keyOf : Cursor → ℕ → ℕ
+keyOf c p = c .past * 4096 + p * 256 + c .impact % 256
+
+-- the n mentions from rank j on stand somewhere in their lists
+abbrev pub SoundFrom : List ℕ → List Mention → ℕ → ℕ → Type 0
+SoundFrom s ms j n = (x : ℕ) → x < n → Sound s (indexOf s .docs) (getD ms (j + x) none .cursor)
+
+-- a row of m places with no key
+abbrev pub blanks : ℕ → List ℕ
+blanks zero = []
+blanks (suc m) = 18446744073709551615 ∷ blanks m
+
+-- rows for n keys with no key in them
+pub record Blank (n : ℕ) (a b c d next : List ℕ) : Type 0 where
+  pub kept : Kept n a b c d
+  pub long : length next ≡ 16
+  pub blank : (x : ℕ) → x < 16 → getD a x 0 ≡ 18446744073709551615
+
+-- of the n mentions from rank j on the first m have their keys in row a, and those of the postings after theirs in row `next`
+pub record KeyedTo (m : ℕ) (s : List ℕ) (ms : List Mention) (j n : ℕ) (a b c d next : List ℕ) (top : ℕ) : Type 0 where
+  pub kept : Kept n a b c d
+  pub lowest : Lowest n top a
+  pub long : length next ≡ 16
+  pub keys : (x : ℕ) → x < m → getD a x 0 ≡ keyOf (getD ms (j + x) none .cursor) x
+  pub over : (x : ℕ) → m ≤ x → x < 16 → getD a x 0 ≡ 18446744073709551615
+  pub nexts : (x : ℕ) → x < m → 0 < getD ms (j + x) none .cursor .rest → getD next x 0 ≡ keyOf (takenAt s (getD ms (j + x) none .cursor)) x
+
+-- all of them have
+abbrev pub Keyed : List ℕ → List Mention → ℕ → ℕ → List ℕ → List ℕ → List ℕ → List ℕ → List ℕ → ℕ → Type 0
+Keyed s ms j n a b c d next top = KeyedTo n s ms j n a b c d next top
