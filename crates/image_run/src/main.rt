@@ -1,23 +1,17 @@
 // Judges edge and damaged images, and prints one line for each. `stdout` was written from document 01 by hand: the comment above each image
 // says why its line is what it is. Image I is that of document 01: one term, N = 10, documents 2 with impact 5 and 7 with impact 9.
 fn say(name: &[u8], bytes: &[u8]) {
-    io::write_all(1, name);
+    report::text(name);
     let verdict = image::judge(bytes);
     match verdict {
-        image::Verdict::Refused(number, place) => {
-            io::write_all(1, b": refused ");
-            io::print_decimal(1, number as u64);
-            io::write_all(1, b" ");
-            io::print_decimal(1, place as u64);
-        }
+        image::Verdict::Refused(number, place) => report::refused(number, place),
         image::Verdict::Accepted(terms, docs) => {
-            io::write_all(1, b": accepted ");
-            io::print_decimal(1, terms as u64);
-            io::write_all(1, b" ");
-            io::print_decimal(1, docs as u64);
+            report::text(b": accepted");
+            report::count(terms);
+            report::number(docs);
         }
     }
-    io::write_all(1, b"\n");
+    report::text(b"\n");
 }
 
 // Refusal 1, and images with no terms.

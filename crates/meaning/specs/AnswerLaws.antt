@@ -29,7 +29,7 @@ rowIn a i = record { doc = getD a (3 + 2 * i) 0; score = getD a (4 + 2 * i) 0 }
 abbrev pub rowsAt : Mode → List Mention → ℕ → ℕ → List Row
 rowsAt mode ms k p = take k (ranked mode ms p)
 
-pub filled-length : (k : ℕ) (l : List Row) → length (filled k l) ≡ 2 * k
+filled-length : (k : ℕ) (l : List Row) → length (filled k l) ≡ 2 * k
 unfolding filled
 filled-length zero l = refl
 filled-length (suc k) [] = omega (arith, filled-length k [])
@@ -74,18 +74,20 @@ module _ (mode : Mode) (ms : List Mention) (k budget N : ℕ) where
   answer-length = omega (arith, filled-length k (ranked mode ms p))
 
   -- the answer from its place, its rows and its count alone, as a walk has them in the end
-  pub answer-is : a ≡ p ∷ length rows ∷ spent (costAt mode ms k) p ∷ filled k rows
+  answer-is : a ≡ p ∷ length rows ∷ spent (costAt mode ms k) p ∷ filled k rows
   unfolding answerOf
   answer-is = rw (length-take k (ranked mode ms p), filled-take k (ranked mode ms p))
 
-  -- "place, rows found, postings scored"
+  -- "place": where the stop rule puts it
   pub answer-place : placeIn a ≡ p
   unfolding answerOf
   answer-place = refl
 
+  -- "rows found"
   pub answer-found : foundIn a ≡ length rows
   answer-found = ap foundIn answer-is
 
+  -- "Postings scored is the sum of costs of visited documents below the place."
   pub answer-scored : scoredIn a ≡ spent (costAt mode ms k) p
   unfolding answerOf
   answer-scored = refl

@@ -6,11 +6,11 @@ use Prim.Native.Nat.{ℕ, zero, suc, _+_, _≤_, _<_}
 use native.Mathlib.Omega.{arith}
 use native.Mathlib.Nat.{mul-le-mul-left}
 use lib.Dec.{leb}
-use lib.ListN.{length, getD, take, drop}
+use lib.ListN.{length, take, drop}
 use borrow.Author.Tests.{leb-true, le-leb}
 use Rattle.lists.specs.Tests.{by-test, by-order, by-zero}
 use Rattle.meaning.specs.Score.{Mention, score, holders}
-use Rattle.meaning.specs.Cost.{ceiling, P, last, aside, noMention}
+use Rattle.meaning.specs.Cost.{P, last, aside}
 use Rattle.meaning.specs.ScoreLaws.{Capped, score-none, score-split}
 
 module _ (f : ℕ → Bool) where
@@ -36,20 +36,6 @@ module _ (f : ℕ → Bool) where
       (λ l. let same : i ≡ suc n = omega arith in absurd (true≢false (sym e ∙ ap f same ∙ q)))
       (λ l. l)) e))
 
--- the ceilings add up, rank by rank
-pub P-next : (os : List Mention) (i : ℕ) → i < length os → P os (suc i) ≡ P os i + ceiling (getD os i noMention)
-unfolding P
-P-next [] i h = absurd (omega arith)
-P-next (m ∷ os) zero h = omega arith
-P-next (m ∷ os) (suc i) h = omega (arith, P-next os i (omega arith))
-
-pub P-up : (os : List Mention) (i j : ℕ) → i ≤ j → P os i ≤ P os j
-unfolding P
-P-up os zero j h = omega arith
-P-up [] (suc i) j h = omega arith
-P-up (m ∷ os) (suc i) zero h = absurd (omega arith)
-P-up (m ∷ os) (suc i) (suc j) h = omega (arith, P-up os i j (omega arith))
-
 -- the i lowest score no more than their ceilings
 score-under : (d i : ℕ) (os : List Mention) → Capped os → score (take i os) d ≤ P os i
 unfolding score P
@@ -74,13 +60,6 @@ module _ (os : List Mention) (bar : ℕ) where
   pub aside-large : (i : ℕ) → i ≤ length os → P os i ≤ bar → i ≤ aside os bar
   unfolding aside
   aside-large i h l = last-large (λ i. leb (P os i) bar) (length os) i h (le-leb _ _ l)
-
-  -- a rank is j where the next one's ceiling would pass the bar
-  pub aside-is : (j : ℕ) → j ≤ length os → P os j ≤ bar → (j < length os → bar < P os (suc j)) → aside os bar ≡ j
-  aside-is j h low next =
-      by-order j (aside os bar)
-      (λ more. absurd (omega (arith, next (omega (arith, aside-le)), P-up os (suc j) (aside os bar) more, aside-low)))
-      (λ most. omega (arith, aside-large j h low))
 
   -- a document dropped at rank i is not above the bar: "if the sum so far plus P(i) is at most the bar"
   pub dropped-low : (d i : ℕ) → Capped os → score (drop i os) d + P os i ≤ bar → score os d ≤ bar

@@ -30,13 +30,14 @@ pub record Best (mode : Mode) (ms : List Mention) (k p found : ℕ) (row : ℕ �
   -- "every row matches, is below the place, and carries its true score"
   pub right : (i : ℕ) → i < found → (matches mode ms (row i .doc) ≡ true) × (row i .doc < p) × (row i .score ≡ score ms (row i .doc))
   -- "every matching document below the place that is not a row is outranked by every row, and there are then k rows"
-  pub rest : (d : ℕ) → d < p → matches mode ms d ≡ true → ((i : ℕ) → i < found → row i .doc ≡ d → ⊥) → (found ≡ k) × ((i : ℕ) → i < found → outranks (row i) (rowOf ms d) ≡ true)
+  pub rest : (d : ℕ) → d < p → matches mode ms d ≡ true → ((i : ℕ) → i < found → row i .doc ≡ d → ⊥) →
+      (found ≡ k) × ((i : ℕ) → i < found → outranks (row i) (rowOf ms d) ≡ true)
   -- "The rows found are the smaller of k and the number of matching documents below the place."
   pub count : found ≡ min k (matching mode ms p)
 
 module _ (mode : Mode) (ms : List Mention) where
   -- exhaustive ranked evaluation has every matching document with its true score, and no other
-  pub ranked-has : (p d : ℕ) → d < p → matches mode ms d ≡ true → Has noRow (rowOf ms d) (ranked mode ms p)
+  ranked-has : (p d : ℕ) → d < p → matches mode ms d ≡ true → Has noRow (rowOf ms d) (ranked mode ms p)
   ranked-has zero d h m = absurd (omega arith)
   ranked-has (suc p) d h m =
       by-order d p
@@ -56,7 +57,7 @@ module _ (mode : Mode) (ms : List Mention) where
   ranked-true (suc d) =
       by-test (matches mode ms d) (λ e. rw e (insert-each True (rowOf ms d) (e, refl) (ranked mode ms d) (ranked-true d))) (λ e. rw e (ranked-true d))
 
-  pub ranked-length : (p : ℕ) → length (ranked mode ms p) ≡ matching mode ms p
+  ranked-length : (p : ℕ) → length (ranked mode ms p) ≡ matching mode ms p
   unfolding ranked matching
   ranked-length zero = refl
   ranked-length (suc d) =
@@ -64,7 +65,7 @@ module _ (mode : Mode) (ms : List Mention) where
 
   module _ (k p : ℕ) where
     -- the first k of them are the best k
-    pub ranked-best : Best mode ms k p (length (rowsAt mode ms k p)) (λ i. getD (ranked mode ms p) i noRow)
+    ranked-best : Best mode ms k p (length (rowsAt mode ms k p)) (λ i. getD (ranked mode ms p) i noRow)
     ranked-best =
         let l = ranked mode ms p in
         let first = length-take k l in
@@ -97,7 +98,7 @@ module _ (mode : Mode) (ms : List Mention) (k budget N : ℕ) where
   abbrev a : List ℕ
   a = answerOf mode ms k budget N
 
-  -- the rows of an answer are the best k among the matching documents below its place
+  -- "Its rows are exactly the best k among matching clips below the place it reports"
   pub answer-best : Best mode ms k (placeIn a) (foundIn a) (rowIn a)
   answer-best =
       let p = placeOf mode ms k budget N in

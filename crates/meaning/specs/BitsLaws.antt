@@ -9,12 +9,12 @@ use lib.ListN.{drop, length, List·getD-eq-default}
 use lib.Seq.{getD-drop}
 use Rattle.meaning.specs.Bits.{bitAt, bitsAt}
 
-pub bit-lt : (s : List ℕ) (i : ℕ) → bitAt s i < 2
+bit-lt : (s : List ℕ) (i : ℕ) → bitAt s i < 2
 unfolding bitAt
 bit-lt s i = omega arith
 
 -- a part of the image that is cut at byte b
-pub bit-drop : (s : List ℕ) (b i : ℕ) → bitAt (drop b s) i ≡ bitAt s (8 * b + i)
+bit-drop : (s : List ℕ) (b i : ℕ) → bitAt (drop b s) i ≡ bitAt s (8 * b + i)
 unfolding bitAt
 bit-drop s b i =
     let byte : (8 * b + i) / 8 ≡ b + i / 8 = omega arith in

@@ -15,7 +15,7 @@ use Rattle.meaning.specs.Layout.{headAt, sizeOf}
 use Rattle.meaning.specs.Image.{Posting, Part, largestOf, nextOf, postingsAt, blockAt, blocksAt}
 use Rattle.meaning.specs.ImageFits.{PostingFits, PostingsFit, BlockFits, BlocksFit, joined}
 
-pub postings-good : (s : List ℕ) (N t w i next n : ℕ) (ps : List Posting) → postingsAt s N t w i next n ≡ good ps →
+postings-good : (s : List ℕ) (N t w i next n : ℕ) (ps : List Posting) → postingsAt s N t w i next n ≡ good ps →
     PostingsFit s N w i next ps × (length ps ≡ n)
 unfolding postingsAt
 postings-good s N t w i next zero ps e = rw (← good-same e) (tt, refl)

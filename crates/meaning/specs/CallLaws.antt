@@ -26,6 +26,7 @@ pub fills : (ix : Index) (q : Query) → length (answer ix q) ≡ 3 + 2 * q .k
 unfolding answer
 fills ix q = answer-length (q .mode) (mentions ix q) (q .k) (q .budget) (ix .docs)
 
+-- "done with the count of numbers filled"
 pub answers-length : (ix : Index) (qs : List Query) → length (answers ix qs) ≡ needed qs
 unfolding answers needed
 answers-length ix [] = refl
@@ -54,7 +55,7 @@ unfolding ending
 said-bad (bad n p) row e = cc
 said-bad (good a) row e = absurd (let z : _≡_ {A = ℕ} 0 1 = cc in omega arith)
 
--- a call whose image, sheet and answer row no row of the table refuses, and the count of numbers that it fills
+-- "none is given otherwise": a call whose image, sheet and answer row no row of the table refuses, and the count of numbers that it fills
 pub record CallFits (image sheet row : List ℕ) (count : ℕ) : Type 0 where
   pub index : Index
   pub queries : List Query
@@ -112,7 +113,7 @@ module _ (image sheet row : List ℕ) where
       let f = done-fits count e in
       rw (done-is f) (drop-at (answers (f .index) (f .queries)) (drop count row) count (answers-length (f .index) (f .queries) ∙ sym (f .sum)))
 
-  -- the answer row keeps its length
+  -- no number of the answer row goes or comes: it keeps its length
   pub length-stays : length (call image sheet row .row) ≡ length row
   length-stays = by-said (call image sheet row .said) refl
     where

@@ -16,12 +16,14 @@ equals =
     record { weight = 1; postings = record { doc = 1; impact = 5 } ∷ record { doc = 6; impact = 5 } ∷ []; largest = 5 } ∷
     []
 
+-- "Dropping only when the sum is below the bar, or letting an equal score push out an earlier document."
 -- k = 1: 2 postings at 1, and the bar is 9. At 6 the sum 4 plus P(1) = 5 is the bar: dropped after 1. At 8 the sum is 9 and P(1) is looked
 -- for in vain: 1, and 9 does not push out document 1
 pub one-row : answerOf Pruned equals 1 100 10 ≡ 10 ∷ 1 ∷ 4 ∷ 1 ∷ 9 ∷ []
 unfolding equals impactAt score holders matches outranks insert ranked kth bar settle ordered P last aside lookUps visitAt cost spent stops first place costAt placeOf filled answerOf
 one-row = refl
 
+-- "Raising the bar before k rows stand."
 -- k = 2: at 6 one row stands, so the bar is 0, nothing is set aside and nothing dropped: 2 postings at 1, 2 at 6, 1 at 8
 pub two-rows : answerOf Pruned equals 2 100 10 ≡ 10 ∷ 2 ∷ 5 ∷ 1 ∷ 9 ∷ 6 ∷ 9 ∷ []
 unfolding equals impactAt score holders matches outranks insert ranked kth bar settle ordered P last aside lookUps visitAt cost spent stops first place costAt placeOf filled answerOf

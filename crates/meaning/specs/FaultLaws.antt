@@ -33,7 +33,7 @@ module _ (image sheet row : List ℕ) where
       let room : needed qs ≡ asked image sheet = rw (← index-terms image ix e, k) in
       need-faults Table (leb (needed qs) (length row)) (λ _. omega arith) (λ _ _. no-fault Table _)))
 
-  -- the table: only numbers 1 to 15 come, each at a place that its row gives
+  -- "refused with a number and a place": only numbers 1 to 15 come, each at a place that its row gives
   pub refused-at : (number place : ℕ) → judged image sheet row ≡ bad number place → PlaceFits (headerOf image .terms) (getD sheet 0 0) (asked image sheet) number place
   unfolding Table
   refused-at = judged-faults .given

@@ -107,6 +107,7 @@ left-zero s stop e i h = by-test (ltb i (8 * length s)) within past
     past : ltb i (8 * length s) ≡ false → bitAt s i ≡ 0
     past l = bit-past s i (ltb-false i (8 * length s) l)
 
+-- "Zero bits, at most 7, to the end of the last byte": an accepted image holds its lists and nothing else
 pub image-filled : (s : List ℕ) (ix : Index) → imageOf s ≡ good ix → Filled s ix
 image-filled s ix e =
     let f = image-good s ix e in

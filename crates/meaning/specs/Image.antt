@@ -1,13 +1,13 @@
 -- The image: one definition that judges it and reads it, refusals 1 to 8 in the written order.
 use Prim.Native.Nat.{ℕ, zero, suc, _+_, _*_, _-_, max}
 use mathlib.Core.Path.{_≡_}
-use mathlib.Core.Bool.{Bool, true, false, cond, _&&_}
+use mathlib.Core.Bool.{Bool, cond, _&&_}
 use mathlib.Core.List.{List, [], _∷_, _++_}
 use lib.ListN.{length}
 use lib.Dec.{ltb, leb, eqb}
 use Rattle.meaning.specs.Bits.{bitsAt}
-use Rattle.meaning.specs.Judged.{Judged, good, bad, _>>=_, need, readOr}
-use Rattle.meaning.specs.Layout.{Header, headerOf, Entry, entryAt, Head, headAt, sizeOf}
+use Rattle.meaning.specs.Judged.{Judged, good, _>>=_, need, readOr}
+use Rattle.meaning.specs.Layout.{headerOf, Entry, entryAt, headAt, sizeOf}
 
 pub record Posting : Type 0 where
   pub doc : ℕ

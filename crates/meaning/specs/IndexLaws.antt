@@ -40,7 +40,7 @@ rising-order N next (p ∷ ps) r i zero l h = absurd (omega arith)
 rising-order N next (p ∷ ps) r zero (suc j) l h = rising-from N (suc (p .doc)) ps (r .3) j (omega arith) .0
 rising-order N next (p ∷ ps) r (suc i) (suc j) l h = rising-order N (suc (p .doc)) ps (r .3) i j (omega arith) (omega arith)
 
--- the true largest impact is at least each, and is one of them
+-- "largest impact of the list": the true one is at least each, and is one of them
 pub largest-top : (ps : List Posting) (i : ℕ) → postingAt ps i .impact ≤ largestOf ps
 unfolding largestOf
 largest-top [] i = omega arith
@@ -59,7 +59,8 @@ largest-one (p ∷ q ∷ ps) h = go (largest-one (q ∷ ps) (omega arith))
     go : One (q ∷ ps) → One (p ∷ q ∷ ps)
     go r = by-test (leb (largestOf (q ∷ ps)) (p .impact)) (λ y. (0, omega arith, omega (arith, leb-true))) (λ n. (suc (r .0), omega arith, omega (arith, leb-false)))
 
-sound-at : (N : ℕ) (xs : List Term) → Sound N xs → (t : ℕ) → t < length xs → Rising N 0 (getD xs t noTerm .postings) × (getD xs t noTerm .largest ≡ largestOf (getD xs t noTerm .postings))
+sound-at : (N : ℕ) (xs : List Term) → Sound N xs → (t : ℕ) → t < length xs →
+    Rising N 0 (getD xs t noTerm .postings) × (getD xs t noTerm .largest ≡ largestOf (getD xs t noTerm .postings))
 sound-at N [] f t h = absurd (omega arith)
 sound-at N (x ∷ xs) f zero h = (f .0, f .1)
 sound-at N (x ∷ xs) f (suc t) h = sound-at N xs (f .2) t (omega arith)
@@ -69,11 +70,8 @@ module _ (s : List ℕ) (ix : Index) (e : imageOf s ≡ good ix) where
   pub index-terms : length (ix .terms) ≡ headerOf s .terms
   index-terms = image-good s ix e .terms
 
-  pub index-docs : ix .docs ≡ headerOf s .docs
+  index-docs : ix .docs ≡ headerOf s .docs
   index-docs = image-good s ix e .docs
-
-  pub terms-small : length (ix .terms) < 2 ^ 12
-  terms-small = rw index-terms (bits-lt s 4 12)
 
   pub docs-small : ix .docs < 2 ^ 24
   docs-small = rw index-docs (bits-lt s 16 24)
@@ -93,6 +91,7 @@ module _ (s : List ℕ) (ix : Index) (e : imageOf s ≡ good ix) where
   pub list-rises : (t : ℕ) → t < length (ix .terms) → Rising (ix .docs) 0 (listAt ix t)
   list-rises t h = list-sound t h .0
 
+  -- so the documents of a list rise
   pub documents-rise : (t : ℕ) → t < length (ix .terms) → (i j : ℕ) → i < j → j < length (listAt ix t) → postingAt (listAt ix t) i .doc < postingAt (listAt ix t) j .doc
   documents-rise t h = rising-order (ix .docs) 0 (listAt ix t) (list-rises t h)
 
@@ -114,9 +113,10 @@ module _ (s : List ℕ) (ix : Index) (e : imageOf s ≡ good ix) where
       let small = largest-true t h .1 in
       (some, omega arith)
 
-  -- "number of postings (24)" of the entry, and 4: "postings above N"
+  -- "number of postings (24)" of the entry
   pub postings-count : (t : ℕ) → t < length (ix .terms) → length (listAt ix t) ≡ entryAt s t .count
   postings-count t h = term-at s ix e t h .count
 
+  -- 4: "postings above N"
   pub postings-few : (t : ℕ) → t < length (ix .terms) → length (listAt ix t) ≤ ix .docs
   postings-few t h = omega (arith, postings-count t h, term-at s ix e t h .entry .count)

@@ -30,7 +30,7 @@ module _ (P : ℕ → ℕ → Type 0) where
   pub no-fault : {A : Type 0} (a : A) → Faults P (good a)
   no-fault a = record { given = λ n p e. absurd (let z : _≡_ {A = ℕ} 0 1 = cc in omega arith) }
 
-  pub one-fault : {A : Type 0} {n p : ℕ} → P n p → Faults {A = A} P (bad n p)
+  one-fault : {A : Type 0} {n p : ℕ} → P n p → Faults {A = A} P (bad n p)
   one-fault {n} {p} h = record { given = λ m q e. let a : n ≡ m = cc in let b : p ≡ q = cc in rw (← a, ← b) h }
 
   pub need-faults : {B : Type 0} (t : Bool) {n p : ℕ} {f : Unit {0} → Judged B} → (t ≡ false → P n p) → ((u : Unit {0}) → t ≡ true → Faults P (f u)) → Faults P (need t n p >>= f)

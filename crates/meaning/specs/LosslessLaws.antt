@@ -53,16 +53,19 @@ module _ (ms : List Mention) (k budget N : ℕ) where
   pub pruned-further : placeIn plain ≤ placeIn pruned
   unfolding placeOf
   pruned-further =
-      omega (arith, answer-place Plain ms k budget N, answer-place Pruned ms k budget N, place-later (costAt Pruned ms k) (costAt Plain ms k) (length ms) budget budget N (pruned-cheaper ms k) (omega arith))
+      let later = place-later (costAt Pruned ms k) (costAt Plain ms k) (length ms) budget budget N (pruned-cheaper ms k) (omega arith) in
+      omega (arith, answer-place Plain ms k budget N, answer-place Pruned ms k budget N, later)
 
   -- "modes 0 and 1 when both finish have the same rows", and mode 1 has scored no more
-  pub same-rows : placeIn plain ≡ N → placeIn pruned ≡ N → (foundIn plain ≡ foundIn pruned) × ((i : ℕ) → i < k → rowIn plain i ≡ rowIn pruned i) × (scoredIn pruned ≤ scoredIn plain)
+  pub same-rows : placeIn plain ≡ N → placeIn pruned ≡ N →
+      (foundIn plain ≡ foundIn pruned) × ((i : ℕ) → i < k → rowIn plain i ≡ rowIn pruned i) × (scoredIn pruned ≤ scoredIn plain)
   same-rows e f =
       let p = placeOf Plain ms k budget N in
       let r = placeOf Pruned ms k budget N in
       let at : p ≡ r = sym (answer-place Plain ms k budget N) ∙ e ∙ sym f ∙ answer-place Pruned ms k budget N in
+      let fewer = spent-less (costAt Pruned ms k) (costAt Plain ms k) (pruned-cheaper ms k) r in
       let rows : rowsAt Plain ms k p ≡ rowsAt Pruned ms k r = ap (take k) (same-ranked ms p ∙ ap (ranked Pruned ms) at) in (
         answer-found Plain ms k budget N ∙ ap (λ (l : List Row). length l) rows ∙ sym (answer-found Pruned ms k budget N),
         λ i h. answer-row Plain ms k budget N i h ∙ ap (λ (l : List Row). getD l i noRow) rows ∙ sym (answer-row Pruned ms k budget N i h),
-        omega (arith, answer-scored Plain ms k budget N, answer-scored Pruned ms k budget N, spent-less (costAt Pruned ms k) (costAt Plain ms k) (pruned-cheaper ms k) r, ap (spent (costAt Plain ms k)) at),
+        omega (arith, answer-scored Plain ms k budget N, answer-scored Pruned ms k budget N, fewer, ap (spent (costAt Plain ms k)) at),
       )

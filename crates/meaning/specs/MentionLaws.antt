@@ -38,15 +38,16 @@ module _ (s : List ℕ) (ix : Index) (e : imageOf s ≡ good ix) (sheet : List �
   pairs-sized at (p ∷ ps) f = (pair-sized at p (f .0), pairs-sized (at + 2) ps (f .1))
 
   module _ (at : ℕ) (q : Query) (f : QueryFits sheet (length (ix .terms)) at q) where
-    pub mentions-sized : Each Sized (mentions ix q)
+    mentions-sized : Each Sized (mentions ix q)
     unfolding mentions
     mentions-sized = pairs-sized (at + 4) (q .pairs) (f .pairs)
 
     -- "the number of terms q (1 to 16)"
-    pub mentions-few : length (mentions ix q) ≤ 16
+    mentions-few : length (mentions ix q) ≤ 16
     unfolding mentions
     mentions-few = let few = f .terms in omega (arith, length-map (q .pairs) (mentionOf ix))
 
+    -- "q (1 to 16)", "weight (1 to 255)", and no impact above the list's largest: what the laws of mode 1 ask
     pub mentions-fit : Fit (mentions ix q)
     unfolding mentions
     mentions-fit =
@@ -57,7 +58,7 @@ module _ (s : List ℕ) (ix : Index) (e : imageOf s ≡ good ix) (sheet : List �
           weighty = each-more Sized (λ (m : Mention). 0 < m .weight) (λ m z. z .some) (mentions ix q) mentions-sized;
         }
 
-    pub mentions-small : Small (mentions ix q)
+    mentions-small : Small (mentions ix q)
     mentions-small =
         each-more Sized (λ (m : Mention). (m .weight ≤ 255) × ((d : ℕ) → impactAt (m .postings) d ≤ 255))
         (λ m z. (z .most, λ d. omega (arith, z .top d, z .small))) (mentions ix q) mentions-sized
@@ -66,7 +67,7 @@ module _ (s : List ℕ) (ix : Index) (e : imageOf s ≡ good ix) (sheet : List �
     pub score-at-most : (d : ℕ) → score (mentions ix q) d ≤ 1040400
     score-at-most d = score-fits d (mentions ix q) mentions-few mentions-small
 
-    -- so every number of the query's answer fits 32 bits
+    -- "lent rows of 32-bit numbers": every number of the query's answer fits
     pub answer-fits : Each Word (answer ix q)
     unfolding answer
     answer-fits =

@@ -1,5 +1,5 @@
 -- Laws of the stop rule and of the place, over any cost.
-use mathlib.Core.Path.{_≡_, refl, sym, ap, _∙_}
+use mathlib.Core.Path.{_≡_, sym, ap, _∙_}
 use mathlib.Core.Bool.{Bool, true, false, true≢false}
 use Prim.Native.Nat.{ℕ, zero, suc, _+_, _*_, _≤_, _<_}
 use native.Mathlib.Omega.{arith}
@@ -61,19 +61,6 @@ unfolding place
 place-later c c′ q b b′ N less h = first-sooner (stops c′ q b) (stops c q b′) (stops-too c c′ q b b′ less h) 0 N
 
 module _ (c : ℕ → ℕ) where
-  -- the costs add up, document by document
-  pub spent-next : (d : ℕ) → spent c (suc d) ≡ spent c d + c d
-  unfolding spent
-  spent-next d = refl
-
-  -- and stay where documents cost nothing
-  pub spent-stays : (p d : ℕ) → p ≤ d → ((e : ℕ) → p ≤ e → e < d → c e ≡ 0) → spent c d ≡ spent c p
-  unfolding spent
-  spent-stays p zero h free = let same : p ≡ 0 = omega arith in rw same
-  spent-stays p (suc d) h free =
-      by-order d p (λ l. let same : p ≡ suc d = omega arith in rw same)
-      (λ l. omega (arith, free d l (omega arith), spent-stays p d l (λ e g m. free e g (omega arith))))
-
   pub spent-most : (q : ℕ) → ((d : ℕ) → c d ≤ q) → (d : ℕ) → spent c d ≤ d * q
   unfolding spent
   spent-most q fits zero = omega arith

@@ -135,3 +135,12 @@ sheet-fault s T terms needed =
     let P = InRows 9 14 terms n needed in
     need-faults P (within 1 64 n) (λ _. omega arith) (λ _ w.
     more-faults (λ m p f. queries-rows terms n needed m p (within-true 1 64 n w) f) (queries-fault s T 0 1 n))
+
+-- the place of a sheet's fault is one of at most 64 queries, or the number of them
+pub sheet-place : (s : List ℕ) (T : ℕ) → Faults (λ number place. Within 9 14 number × (place ≤ 64)) (sheetOf s T)
+unfolding sheetOf
+sheet-place s T =
+    let n = getD s 0 0 in
+    let P : ℕ → ℕ → Type 0 = λ number place. Within 9 14 number × (place ≤ 64) in
+    need-faults P (within 1 64 n) (λ _. omega arith) (λ _ w.
+    more-faults (λ m p f. omega (arith, within-true 1 64 n w)) (queries-fault s T 0 1 n))

@@ -1,12 +1,12 @@
 -- The sheet: one definition that judges it and reads it, refusals 9 to 14 in reading order.
 use Prim.Native.Nat.{ℕ, zero, suc, _+_, _*_}
-use mathlib.Core.Bool.{Bool, true, false, _&&_}
+use mathlib.Core.Bool.{Bool, _&&_}
 use mathlib.Core.List.{List, [], _∷_}
 use lib.ListN.{length, getD}
 use lib.Dec.{ltb, leb, eqb}
 use Rattle.meaning.specs.declared.Mode.{Mode}
 use Rattle.meaning.specs.declared.Mode.the-variants.{Plain, Pruned, All}
-use Rattle.meaning.specs.Judged.{Judged, good, bad, _>>=_, need}
+use Rattle.meaning.specs.Judged.{Judged, good, _>>=_, need}
 
 -- a mention as the sheet has it
 pub record Pair : Type 0 where

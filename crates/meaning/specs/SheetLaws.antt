@@ -23,7 +23,7 @@ within-true low high n e = let b = both-true (leb low n) (leb n high) e in (leb-
 true-within : (low high n : ℕ) → Within low high n → within low high n ≡ true
 true-within low high n h = rw (le-leb low n (h .0), le-leb n high (h .1))
 
-pairs-good : (s : List ℕ) (T i at q : ℕ) (ps : List Pair) → pairsAt s T i at q ≡ good ps → PairsFit s T at ps × (length ps ≡ q)
+pub pairs-good : (s : List ℕ) (T i at q : ℕ) (ps : List Pair) → pairsAt s T i at q ≡ good ps → PairsFit s T at ps × (length ps ≡ q)
 unfolding pairsAt
 pairs-good s T i at zero ps e = rw (← good-same e) (tt, refl)
 pairs-good s T i at (suc q) ps e =
@@ -40,7 +40,7 @@ fit-pairs s T i at [] f = refl
 fit-pairs s T i at (p ∷ ps) f =
     rw (← f .0 .term, ← f .0 .weight, lt-ltb (p .term) T (f .0 .below), true-within 1 255 (p .weight) (f .0 .weighs), fit-pairs s T i (at + 2) ps (f .1))
 
-query-good : (s : List ℕ) (T i at : ℕ) (q : Query) → queryAt s T i at ≡ good q → QueryFits s T at q
+pub query-good : (s : List ℕ) (T i at : ℕ) (q : Query) → queryAt s T i at ≡ good q → QueryFits s T at q
 unfolding queryAt
 query-good s T i at q e =
     let n = getD s (at + 3) 0 in

@@ -35,7 +35,7 @@ some-matches Plain ms d by h = lt-ltb 0 (holders ms d) h
 some-matches Pruned ms d by h = lt-ltb 0 (holders ms d) h
 some-matches All ms d by h = absurd by
 
--- a document has a cost exactly where it is visited
+-- "Postings scored is the sum of costs of visited documents": a document has a cost exactly where it is visited
 pub visits-cost : (mode : Mode) (ms : List Mention) → 0 < length ms → (b d : ℕ) → ltb 0 (cost mode ms b d) ≡ visits mode ms b d
 unfolding visits cost matches
 visits-cost Plain ms some b d = refl
@@ -52,11 +52,7 @@ visits-some mode ms some b d e = ltb-true 0 (cost mode ms b d) (visits-cost mode
 pub visits-free : (mode : Mode) (ms : List Mention) → 0 < length ms → (b d : ℕ) → visits mode ms b d ≡ false → cost mode ms b d ≡ 0
 visits-free mode ms some b d e = omega (arith, ltb-false 0 (cost mode ms b d) (visits-cost mode ms some b d ∙ e))
 
--- mode 0's cost is that of a visit with no mention set aside, in the written order and in the order by ceiling
-pub plain-cost : (ms : List Mention) (b d : ℕ) → cost Plain ms b d ≡ visitAt ms b 0 d .count
-unfolding cost
-plain-cost ms b d = sym (ap (λ (t : Tally). t .count) (visit-all ms b d))
-
+-- mode 0's cost is that of a visit with no mention set aside, in the order by ceiling
 pub plain-cost-ordered : (ms : List Mention) (b d : ℕ) → cost Plain ms b d ≡ visitAt (ordered ms) b 0 d .count
 unfolding cost
 plain-cost-ordered ms b d = sym (ordered-holders d ms) ∙ sym (ap (λ (t : Tally). t .count) (visit-all (ordered ms) b d))

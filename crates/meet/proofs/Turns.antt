@@ -5,8 +5,8 @@ use Prim.Native.Nat.{ℕ, suc, _+_, _*_, _-_, _≤_, _<_}
 use native.Mathlib.Omega.{arith}
 use native.Mathlib.Numerals.{add-one}
 use lib.Dec.{eqb}
-use lib.ListN.{length, getD, set, take, drop, length-set, length-map, length-take, drop-of-length-le, List·getD-map}
-use lib.Seq.{set-getD, drop-cons, getD-take}
+use lib.ListN.{length, getD, set, drop, length-set, length-map, length-take, drop-of-length-le}
+use lib.Seq.{set-getD}
 use borrow.Author.Tests.{eqb-true, eqb-false}
 use Rattle.lists.specs.Tests.{by-test}
 use Rattle.meaning.specs.Image.{indexOf}
@@ -23,6 +23,7 @@ use Rattle.walk.specs.Stand.{docOf, Stands, Lags, Goes, Placed}
 use Rattle.walk.specs.NextLaws.{doc-none, doc-some}
 use Rattle.walk.specs.StandLaws.{stands-later, stands-after, stands-hit, stands-miss, stands-fits, goes-same}
 use Rattle.walk.specs.PlacedLaws.{placed-meant, placed-looked}
+use Rattle.walk.specs.StartLaws.{meant-at}
 use Rattle.walk.specs.Walk.{meantOf, runOf}
 use Rattle.walk.specs.declared.Visit.{Visit}
 use Rattle.meet.specs.Meet.{Meets, meetBy, Leaves}
@@ -67,7 +68,8 @@ pub record Found (s : List ℕ) (d : ℕ) (ms : List Mention) (i : ℕ) (ns : Li
   pub stored : ns ≡ set ms i m
 
 -- all mentions lag
-all-aside : (s : List ℕ) (os : List sc.Mention) (q d : ℕ) (ms : List Mention) → length os ≡ q → ((x : ℕ) → x < length os → meant s (getD ms x none) ≡ getD os x noMention) → ((x : ℕ) → x < q → Lags s d (getD ms x none)) → Placed s os q q d ms
+all-aside : (s : List ℕ) (os : List sc.Mention) (q d : ℕ) (ms : List Mention) → length os ≡ q →
+    ((x : ℕ) → x < length os → meant s (getD ms x none) ≡ getD os x noMention) → ((x : ℕ) → x < q → Lags s d (getD ms x none)) → Placed s os q q d ms
 all-aside s os q d ms whole means lags =
     record { means = means; aside = lags; gone = λ x g h. absurd (omega arith); here = λ x g h. absurd (omega arith) }
 
@@ -220,7 +222,7 @@ module _ {s : List ℕ} {os : List sc.Mention} {bar q budget : ℕ} {run : Run} 
 
 -- what the walk has to show when it ends
 abbrev pub Ends : List ℕ → List sc.Mention → ℕ → Run → Visit → Type 0
-Ends s os q run r = (runOf (indexOf s .docs) r ≡ run) × (r .turn ≡ Entered → Leaves s os q r)
+Ends s os q run r = (runOf (indexOf s .docs) r ≡ run) × ((0 < r .past) × (r .turn ≡ Entered → Leaves s os q r))
 
 module _ {s : List ℕ} {os : List sc.Mention} {bar q budget : ℕ} {run : Run} {cost past : ℕ} {ms : List Mention} {count sum i : ℕ} (k : Looping s os bar q budget run cost past ms count sum i) where
   -- no document is left
@@ -229,7 +231,7 @@ module _ {s : List ℕ} {os : List sc.Mention} {bar q budget : ℕ} {run : Run} 
       let N = indexOf s .docs in
       let none : N - N ≡ 0 = omega arith in
       let at = doc-none N past e in
-      rw same (rw at (sym (run-end (meetAt os) bar q budget N count) ∙ rw (at, none) at (k .meeting .at .same)), λ t. let z : _≡_ {A = ℕ} 0 1 = cc in absurd (omega arith))
+      rw same (rw at (sym (run-end (meetAt os) bar q budget N count) ∙ rw (at, none) at (k .meeting .at .same)), (k .least, λ t. let z : _≡_ {A = ℕ} 0 1 = cc in absurd (omega arith)))
 
   module _ (going : past ≡ 4294967295 → ⊥) where
     at-doc : docOf (indexOf s .docs) past ≡ past - 1
@@ -257,36 +259,37 @@ module _ {s : List ℕ} {os : List sc.Mention} {bar q budget : ℕ} {run : Run} 
     module _ (end : q ≤ i) where
       pub stops : budget < count + cost → {r : Visit} {next : ℕ} → r ≡ record { ms = ms; turn = Stopped; past = past; sum = 0; count = count; next = next } → Ends s os q run r
       stops h same =
-          rw same (rw at-doc (stopped here end (omega (arith, k .paid))), λ t. let z : _≡_ {A = ℕ} 0 1 = cc in absurd (omega arith))
+          rw same (rw at-doc (stopped here end (omega (arith, k .paid))), (k .least, λ t. let z : _≡_ {A = ℕ} 0 1 = cc in absurd (omega arith)))
 
       module _ (fits : count + cost ≤ budget) where
         pub enters : bar < sum → {r : Visit} → r ≡ record { ms = ms; turn = Entered; past = past; sum = sum; count = count + cost; next = past + 1 } → Ends s os q run r
         enters h same =
             let r = here .at in
             let at : past + 1 - 1 ≡ suc (past - 1) = omega (arith, there) in
-            rw (same, k .paid) (
-              rw at-doc (entered here end (omega (arith, k .paid)) h),
-              λ t. record {
-                next = refl;
-                means = placed-meant (r .placed) (r .ground .whole) (omega (arith, r .long, r .ground .few));
-                meets = record {
-                  some = r .ground .some;
-                  few = r .ground .few;
-                  least = omega arith;
-                  most = omega (arith, inside here end);
-                  lags = rw at (later-aside r (suc (past - 1)) (omega arith));
-                  spare = rw at (omega (arith, r .spare, r .ground .few));
-                };
-              },
-            )
+            let leaves : Leaves s os q (record { ms = ms; turn = Entered; past = past; sum = sum; count = count + q; next = past + 1 }) =
+            record {
+              next = refl;
+              means = placed-meant (r .placed) (r .ground .whole) (omega (arith, r .long, r .ground .few));
+              meets = record {
+                some = r .ground .some;
+                few = r .ground .few;
+                least = omega arith;
+                most = omega (arith, inside here end);
+                lags = rw at (later-aside r (suc (past - 1)) (omega arith));
+                spare = rw at (omega (arith, r .spare, r .ground .few));
+              };
+            } in
+            rw (same, k .paid) (rw at-doc (entered here end (omega (arith, k .paid)) h), (k .least, λ t. leaves))
 
         pub passes : sum ≤ bar → Looping s os bar q budget run cost (past + 1) ms (count + cost) 0 0
         passes h =
-            let next : docOf (indexOf s .docs) (past + 1) ≡ suc (past - 1) = doc-some (indexOf s .docs) (past + 1) (λ z. omega (arith, here .at .most, here .at .ground .docs)) ∙ omega (arith, there) in
+            let next : docOf (indexOf s .docs) (past + 1) ≡ suc (past - 1) =
+            doc-some (indexOf s .docs) (past + 1) (λ z. omega (arith, here .at .most, here .at .ground .docs)) ∙ omega (arith, there) in
             record { paid = k .paid; least = omega arith; meeting = rw (next, k .paid) (fresh (passed here end (omega (arith, k .paid)) h)) }
 
 -- how the loop starts
-pub starts : {s : List ℕ} {ms : List Mention} {bar q budget past count cost : ℕ} → Meets s ms q past count → length ms ≡ 16 → cost ≡ q → Looping s (meantOf s q ms) bar q budget (meetBy s (meantOf s q ms) bar q budget past count) cost past ms count 0 0
+pub starts : {s : List ℕ} {ms : List Mention} {bar q budget past count cost : ℕ} → Meets s ms q past count → length ms ≡ 16 → cost ≡ q →
+    Looping s (meantOf s q ms) bar q budget (meetBy s (meantOf s q ms) bar q budget past count) cost past ms count 0 0
 starts {s} {ms} {q = q} {past = past} m long paid =
     let os = meantOf s q ms in
     let docs = m .lags 0 (m .some) .2 .sound .ready .few in
@@ -300,17 +303,8 @@ starts {s} {ms} {q = q} {past = past} m long paid =
             ground = record { whole = whole; some = m .some; few = m .few; docs = docs };
             long = long;
             most = omega (arith, m .most);
-            placed = all-aside s os q (past - 1) ms whole means (m .lags);
+            placed = all-aside s os q (past - 1) ms whole (meant-at s q ms) (m .lags);
             spare = m .spare;
             same = refl;
           }));
     }
-  where
-    means : (x : ℕ) → x < length (meantOf s q ms) → meant s (getD ms x none) ≡ getD (meantOf s q ms) x noMention
-    means x h =
-        let l = meantOf s q ms in
-        let lt : x < q = omega (arith, length-map (take q ms) (meant s), length-take q ms) in
-        let first = drop-cons l x (meant s none) h in
-        let second = drop-cons l x noMention h in
-        let same : getD l x (meant s none) ≡ getD l x noMention = cc in
-        ap (meant s) (sym (getD-take q ms x none lt)) ∙ sym (List·getD-map (meant s) (take q ms) x none) ∙ same

@@ -2,7 +2,7 @@
 -- documents that all of them hold, and their scores.
 use mathlib.Core.Path.{_≡_, refl, ap, fun-ext, _∙_}
 use mathlib.Core.List.{List, [], _∷_, map}
-use Prim.Native.Nat.{ℕ, zero, suc, _-_, _≤_, _<_}
+use Prim.Native.Nat.{ℕ, zero, suc, _≤_, _<_}
 use native.Mathlib.Omega.{arith}
 use lib.Dec.{eqb}
 use lib.ListN.{length, getD, take, drop, length-append, length-take, length-drop, length-map, List·getD-append}
@@ -13,24 +13,22 @@ use Rattle.lists.specs.Each.{Each, each-at, each-from}
 use Rattle.meaning.specs.Image.{indexOf}
 use Rattle.meaning.specs.ImageLaws.{blocks-rise}
 use Rattle.meaning.specs.Score as sc
-use Rattle.meaning.specs.Cost.{Tally}
 use Rattle.cursor.specs.Left.{leftOf, blockEnd}
 use Rattle.cursor.specs.Sound.{Sound}
 use Rattle.cursor.specs.PostingLaws.{below-zero}
 use Rattle.cursor.specs.CursorLaws.{at-end, left-is, ahead-is}
-use Rattle.runs.specs.Run.{runFrom}
 use Rattle.runs.specs.AllVisits.{meetAt}
 use Rattle.mentions.specs.declared.Mention.{Mention}
 use Rattle.mentions.specs.Mentions.{none, meant}
-use Rattle.walk.specs.Stand.{Stands, Lags}
+use Rattle.walk.specs.Stand.{Stands}
 use Rattle.walk.specs.Walk.{meantOf}
-use Rattle.meet.specs.Sorted.{sortedBy}
-use Rattle.meet.specs.SortedLaws.{sorted-sum, sorted-length, sorted-each, Rises, sorted-rises}
-use Rattle.meet.specs.Meet.{postingsLeft, led, Meets, meetBy}
+use Rattle.lists.specs.Sorted.{sortedBy}
+use Rattle.lists.specs.SortedLaws.{sorted-sum, sorted-length, sorted-each, Rises, sorted-rises}
+use Rattle.meet.specs.Meet.{postingsLeft, led}
 
 -- what a record says is left is what its cursor has left
 module _ (s : List ℕ) (m : Mention) (sound : Sound s (indexOf s .docs) (m .cursor)) where
-  pub left-length : postingsLeft m ≡ length (leftOf s (m .cursor))
+  left-length : postingsLeft m ≡ length (leftOf s (m .cursor))
   left-length =
       let c = m .cursor in
       let r = sound .ready in
@@ -41,17 +39,17 @@ module _ (s : List ℕ) (m : Mention) (sound : Sound s (indexOf s .docs) (m .cur
       rw (b, left-is s c (eqb-false (c .past) 4294967295 b), ahead-is s (indexOf s .docs) c r) (simp length-append (omega (arith, r .count))))
 
 -- and at its list's first posting all of the list
-pub list-length : (s : List ℕ) (m : Mention) → Stands s 0 m → postingsLeft m ≡ length (meant s m .postings)
+list-length : (s : List ℕ) (m : Mention) → Stands s 0 m → postingsLeft m ≡ length (meant s m .postings)
 list-length s m st = left-length s m (st .sound) ∙ ap length (st .at ∙ below-zero (meant s m .postings))
 
 module _ (q : ℕ) (ms : List Mention) (le : q ≤ length ms) where
   few : length (sortedBy postingsLeft (take q ms)) ≡ q
   few = sorted-length postingsLeft (take q ms) ∙ simp length-take (omega arith)
 
-  pub lead-length : length (led q ms) ≡ length ms
+  lead-length : length (led q ms) ≡ length ms
   lead-length = simp (length-append, length-drop) (omega (arith, few))
 
-  pub lead-first : take q (led q ms) ≡ sortedBy postingsLeft (take q ms)
+  lead-first : take q (led q ms) ≡ sortedBy postingsLeft (take q ms)
   lead-first = take-at (sortedBy postingsLeft (take q ms)) (drop q ms) q few
 
   lead-at : (x : ℕ) → x < q → getD (led q ms) x none ≡ getD (sortedBy postingsLeft (take q ms)) x none
@@ -64,7 +62,7 @@ module _ (q : ℕ) (ms : List Mention) (le : q ≤ length ms) where
       rw (lead-at x h) (each-at Q (sortedBy postingsLeft (take q ms)) (sorted-each postingsLeft Q (take q ms) all) x (omega (arith, few)) none)
 
   -- the shortest leads: none of the first q has fewer postings left
-  pub lead-fewest : (x : ℕ) → x < q → postingsLeft (getD (led q ms) 0 none) ≤ postingsLeft (getD (led q ms) x none)
+  lead-fewest : (x : ℕ) → x < q → postingsLeft (getD (led q ms) 0 none) ≤ postingsLeft (getD (led q ms) x none)
   lead-fewest x h = rw (lead-at x h, lead-at 0 (omega arith)) (first (sortedBy postingsLeft (take q ms)) (sorted-rises postingsLeft (take q ms)) x (omega (arith, few)))
     where
       first : (l : List Mention) → Rises postingsLeft l → (x : ℕ) → x < length l → postingsLeft (getD l 0 none) ≤ postingsLeft (getD l x none)
@@ -73,11 +71,11 @@ module _ (q : ℕ) (ms : List Mention) (le : q ≤ length ms) where
       first (m ∷ l) r (suc x) h = each-at (λ (y : Mention). postingsLeft m ≤ postingsLeft y) l (r .0) x (omega arith) none
 
   module _ (s : List ℕ) where
-    pub lead-score : (d : ℕ) → sc.score (meantOf s q (led q ms)) d ≡ sc.score (meantOf s q ms) d
+    lead-score : (d : ℕ) → sc.score (meantOf s q (led q ms)) d ≡ sc.score (meantOf s q ms) d
     unfolding sc.score
     lead-score d = rw lead-first (sorted-sum postingsLeft (λ l. sc.score (map (meant s) l) d) (λ m. sc.gain (meant s m) d) (λ m l. refl) (take q ms))
 
-    pub lead-holders : (d : ℕ) → sc.holders (meantOf s q (led q ms)) d ≡ sc.holders (meantOf s q ms) d
+    lead-holders : (d : ℕ) → sc.holders (meantOf s q (led q ms)) d ≡ sc.holders (meantOf s q ms) d
     unfolding sc.holders
     lead-holders d = rw lead-first (sorted-sum postingsLeft (λ l. sc.holders (map (meant s) l) d) (λ m. sc.held (meant s m) d) (λ m l. refl) (take q ms))
 
@@ -88,15 +86,6 @@ module _ (q : ℕ) (ms : List Mention) (le : q ≤ length ms) where
     pub lead-same : meetAt (meantOf s q (led q ms)) ≡ meetAt (meantOf s q ms)
     unfolding meetAt
     lead-same = fun-ext (λ d. rw (lead-score d, lead-holders d, lead-count))
-
-    pub lead-runs : (bar budget past count : ℕ) → meetBy s (meantOf s q (led q ms)) bar q budget past count ≡ meetBy s (meantOf s q ms) bar q budget past count
-    lead-runs bar budget past count =
-        ap (λ (v : ℕ → Tally). runFrom v bar q budget (past - 1) count (indexOf s .docs - (past - 1))) lead-same
-
-    -- and the walk may start from it as from the mentions as they stood
-    pub lead-meets : (past count : ℕ) → Meets s ms q past count → Meets s (led q ms) q past count
-    lead-meets past count m =
-        record { some = m .some; few = m .few; least = m .least; most = m .most; lags = lead-each (Lags s (past - 1)) (m .lags); spare = m .spare }
 
     -- where all of them stand at their lists' first postings, the leader's list is the shortest
     pub lead-shortest : ((x : ℕ) → x < q → Stands s 0 (getD ms x none)) → (x : ℕ) → x < q →

@@ -1,5 +1,3 @@
-pub mod Sorted
-pub mod SortedLaws
 pub mod Meet
 pub mod MeetLaws
 pub mod LeadLaws

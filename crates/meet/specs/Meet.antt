@@ -14,7 +14,7 @@ use Rattle.mentions.specs.Mentions.{none}
 use Rattle.walk.specs.Stand.{Lags}
 use Rattle.walk.specs.Walk.{meantOf}
 use Rattle.walk.specs.declared.Visit.{Visit}
-use Rattle.meet.specs.Sorted.{sortedBy}
+use Rattle.lists.specs.Sorted.{sortedBy}
 
 -- the postings that a mention has left, by which the mentions are put in order: the current one, and those after it in its block and list
 abbrev pub postingsLeft : Mention → ℕ

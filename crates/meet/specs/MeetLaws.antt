@@ -1,7 +1,7 @@
--- Laws of a document that every list holds and of one that some list lacks.
+-- Laws of a document that every list holds and of one that some list lacks, and how the first walk starts.
 use mathlib.Core.Path.{_≡_}
 use mathlib.Core.List.{List, [], _∷_}
-use Prim.Native.Nat.{ℕ, zero, suc, _<_}
+use Prim.Native.Nat.{ℕ, zero, suc, _≤_, _<_}
 use native.Mathlib.Omega.{arith}
 use lib.ListN.{length, getD}
 use borrow.Author.Tests.{eq-eqb, ne-eqb}
@@ -10,6 +10,9 @@ use Rattle.meaning.specs.Cost.{noMention}
 use Rattle.meaning.specs.ScoreLaws.{holders-le}
 use Rattle.runs.specs.AllVisits.{meetAt}
 use Rattle.mentions.specs.declared.Mention.{Mention}
+use Rattle.mentions.specs.Mentions.{none}
+use Rattle.walk.specs.Stand.{Stands}
+use Rattle.meet.specs.Meet.{Meets}
 
 module _ (os : List sc.Mention) (d : ℕ) where
   -- "Mode 2 visits every matching document at cost q"
@@ -28,3 +31,8 @@ unfolding sc.holders
 lacks [] d x h e = absurd (omega arith)
 lacks (m ∷ os) d zero h e = omega (arith, holders-le d os)
 lacks (m ∷ os) d (suc x) h e = omega (arith, lacks os d x (omega arith) e, holders-le d (m ∷ []))
+
+-- the first walk: every mention at its list's first posting
+pub meets-first : {s : List ℕ} {ms : List Mention} {q : ℕ} → 0 < q → q ≤ 16 → ((x : ℕ) → x < q → Stands s 0 (getD ms x none)) → Meets s ms q 1 0
+meets-first some few stand =
+    record { some = some; few = few; least = omega arith; most = omega arith; lags = λ x h. (0, omega arith, stand x h); spare = omega arith }

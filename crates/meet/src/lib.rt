@@ -11,7 +11,7 @@ ghost use Rattle.meaning.specs.Image.{indexOf};
 ghost use Rattle.runs.specs.declared.Turn.the-variants.{Entered};
 ghost use Rattle.mentions.specs.Mentions.{none};
 ghost use Rattle.walk.specs.Walk.{meantOf, runOf};
-ghost use Rattle.meet.specs.Sorted.{settledIn};
+ghost use Rattle.lists.specs.Sorted.{settledIn};
 ghost use Rattle.meet.specs.Meet.{postingsLeft, led, Meets, meetBy, Leaves};
 
 // The postings that a mention has left, the current one among them.
@@ -62,20 +62,6 @@ pub fn lead(ms: [Mention; 16], q: usize) -> [Mention; 16]
     out
 }
 
-// A walk that ends.
-fn ended(ms: [Mention; 16], turn: Turn, past: u32, sum: u32, count: u32, next: u32) -> Visit
-    ensures { λ r. ⌜ r ≡ record { ms = ms; turn = turn; past = past; sum = sum; count = count; next = next } ⌝ }
-{
-    Visit {
-        ms,
-        turn,
-        past,
-        sum,
-        count,
-        next,
-    }
-}
-
 // From document past - 1 on, up to the first that every list holds and that enters the table, the stop, or the end.
 pub fn meet(
     image: &[u8],
@@ -114,17 +100,17 @@ pub fn meet(
             }
         } else {
             if (budget as u64) < (count as u64) + (cost as u64) {
-                return ended(ms, Turn::Stopped, past, 0, count, past);
+                return walk::ended(ms, Turn::Stopped, past, 0, count, past);
             }
             count += cost;
             let next = past + 1;
             if bar < sum {
-                return ended(ms, Turn::Entered, past, sum, count, next);
+                return walk::ended(ms, Turn::Entered, past, sum, count, next);
             }
             past = next;
             sum = 0;
             i = 0;
         }
     }
-    ended(ms, Turn::Finished, past, 0, count, past)
+    walk::ended(ms, Turn::Finished, past, 0, count, past)
 }

@@ -1,15 +1,14 @@
 -- "Mode 2 visits every matching document at cost q."
-use mathlib.Core.Path.{_≡_, refl, sym, ap, subst, _∙_}
-use mathlib.Core.Bool.{Bool, true, false, cond}
+use mathlib.Core.Path.{ap}
+use mathlib.Core.Bool.{cond}
 use mathlib.Core.List.{List}
-use Prim.Native.Nat.{ℕ, zero, suc, _≤_, _<_}
+use Prim.Native.Nat.{ℕ}
 use native.Mathlib.Omega.{arith}
 use lib.Dec.{eqb}
 use lib.ListN.{length, take}
 use Rattle.lists.specs.Tests.{by-test}
 use Rattle.meaning.specs.declared.Mode.the-variants.{All}
 use Rattle.meaning.specs.Score.{Mention, score, holders, matches}
-use Rattle.meaning.specs.Rank.{insert, ranked, bar}
 use Rattle.meaning.specs.Cost.{Tally, cost}
 use Rattle.meaning.specs.TableLaws.{ranked-unmatched, enter, keep-low}
 use Rattle.meaning.specs.WalkLaws.{Fit}

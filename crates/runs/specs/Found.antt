@@ -1,15 +1,14 @@
 -- What a query's walk has found when it ends, and that these are the numbers of its answer.
-use mathlib.Core.Path.{_≡_, refl, sym, ap, subst, _∙_}
+use mathlib.Core.Path.{_≡_, sym}
 use mathlib.Core.Bool.{true}
 use mathlib.Core.List.{List, _∷_}
-use Prim.Native.Nat.{ℕ, zero, suc, _≤_, _<_, min}
-use native.Mathlib.Omega.{arith}
+use Prim.Native.Nat.{ℕ, _<_}
 use lib.ListN.{length, take, length-take}
 use Rattle.meaning.specs.declared.Mode.{Mode}
 use Rattle.meaning.specs.declared.Row.{Row}
 use Rattle.meaning.specs.Score.{Mention}
 use Rattle.meaning.specs.Rank.{ranked}
-use Rattle.meaning.specs.Place.{spent, stops, place}
+use Rattle.meaning.specs.Place.{spent, stops}
 use Rattle.meaning.specs.Answer.{costAt, placeOf, filled, answerOf}
 use Rattle.meaning.specs.AnswerLaws.{filled-take}
 use Rattle.meaning.specs.PlaceLaws.{place-at, place-end}

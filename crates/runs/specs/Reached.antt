@@ -1,20 +1,20 @@
 -- What a walk has shown when it stands before document d, and that a run keeps it: the law from which every mode's walk is the written rule.
-use mathlib.Core.Path.{_≡_, refl, sym, ap, subst, _∙_}
-use mathlib.Core.Bool.{Bool, true, false, cond, _&&_}
-use mathlib.Core.List.{List, [], _∷_}
-use Prim.Native.Nat.{ℕ, zero, suc, _+_, _-_, _≤_, _<_}
+use mathlib.Core.Path.{_≡_, sym, ap, subst, _∙_}
+use mathlib.Core.Bool.{true, false}
+use mathlib.Core.List.{List}
+use Prim.Native.Nat.{ℕ, zero, suc, _+_, _≤_, _<_}
 use native.Mathlib.Omega.{arith}
 use lib.Dec.{ltb, eqb}
 use lib.ListN.{length, take}
-use borrow.Author.Tests.{ltb-true, ltb-false, eqb-true, eqb-false, lt-ltb, le-ltb}
+use borrow.Author.Tests.{ltb-true, ltb-false, eqb-true, eqb-false}
 use Rattle.lists.specs.Tests.{by-test}
 use Rattle.meaning.specs.declared.Mode.{Mode}
 use Rattle.meaning.specs.declared.Row.{Row}
-use Rattle.meaning.specs.Score.{Mention, score, matches}
-use Rattle.meaning.specs.Rank.{insert, ranked, rowOf, noRow, kth, bar}
+use Rattle.meaning.specs.Score.{Mention, score}
+use Rattle.meaning.specs.Rank.{insert, ranked, kth, bar}
 use Rattle.meaning.specs.Cost.{Tally, cost}
-use Rattle.meaning.specs.Place.{spent, stops, first, place}
-use Rattle.meaning.specs.Answer.{costAt, placeOf}
+use Rattle.meaning.specs.Place.{spent, stops}
+use Rattle.meaning.specs.Answer.{costAt}
 use Rattle.meaning.specs.TableLaws.{bar-table}
 use Rattle.meaning.specs.PlaceLaws.{free-goes, fits-goes, dear-stops}
 use Rattle.runs.specs.declared.Turn.{Turn}

@@ -1,14 +1,13 @@
 -- Each way through a document of a run, for the proofs of walks.
-use mathlib.Core.Path.{_≡_, refl, sym, ap, _∙_}
-use mathlib.Core.Bool.{Bool, true, false, cond}
-use Prim.Native.Nat.{ℕ, zero, suc, _+_, _-_, _≤_, _<_}
+use mathlib.Core.Path.{_≡_, refl, _∙_}
+use Prim.Native.Nat.{ℕ, zero, suc, _+_, _≤_, _<_}
 use native.Mathlib.Omega.{arith}
 use lib.Dec.{ltb, eqb}
 use borrow.Author.Tests.{lt-ltb, le-ltb, eq-eqb, ne-eqb}
 use Rattle.lists.specs.Tests.{by-test}
 use Rattle.meaning.specs.Cost.{Tally}
 use Rattle.runs.specs.declared.Turn.the-variants.{Finished, Stopped, Entered}
-use Rattle.runs.specs.Run.{Run, runFrom}
+use Rattle.runs.specs.Run.{runFrom}
 
 module _ (v : ℕ → Tally) (bar q budget : ℕ) where
   -- a document that is not visited is passed

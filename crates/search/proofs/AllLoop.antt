@@ -1,9 +1,9 @@
 -- A query of mode 2 in its loop: what holds before each walk, whichever query's mentions the array has in order.
 use mathlib.Core.Path.{_≡_, refl, sym, ap, subst, _∙_}
 use mathlib.Core.List.{List, []}
-use Prim.Native.Nat.{ℕ, zero, suc, _+_, _-_, _*_, _≤_, _<_}
+use Prim.Native.Nat.{ℕ, suc, _+_, _-_, _≤_, _<_}
 use native.Mathlib.Omega.{arith}
-use lib.ListN.{length, take, drop, getD}
+use lib.ListN.{length, take}
 use lib.Seq.{take-nil}
 use Rattle.lists.specs.Each.{each-more}
 use Rattle.meaning.specs.declared.Mode.the-variants.{All}
@@ -118,7 +118,8 @@ module _ {s : List ℕ} {q k budget N : ℕ} {first : List Mention} {μs : List 
           let early = no-earlier in
           each-more (λ (x : Row). x .doc < past - 1) (λ (x : Row). x .doc < r .past - 1) (λ x h. omega arith) (rowsOf table) (stands-under All μs k (past - 1) table (w .reached .ranks))
 
-      pub going-entered : (next : Table) → rowsOf next ≡ take k (insert (record { doc = r .past - 1; score = r .sum }) (rowsOf table)) → next .len ≤ k → next .len ≡ length (rowsOf next) → Going (r .ms) next (kth k (rowsOf next)) (r .count) (r .next)
+      pub going-entered : (next : Table) → rowsOf next ≡ take k (insert (record { doc = r .past - 1; score = r .sum }) (rowsOf table)) →
+          next .len ≤ k → next .len ≡ length (rowsOf next) → Going (r .ms) next (kth k (rowsOf next)) (r .count) (r .next)
       going-entered next rows within size =
           let there : r .next - 1 ≡ r .past = omega (arith, l .next) in
           record {

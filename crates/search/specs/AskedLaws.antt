@@ -1,19 +1,17 @@
 -- An asked query's pairs can be gathered, its walk is served with the mentions, and what the walk has found is the written answer.
-use mathlib.Core.Path.{_≡_, sym, ap, subst, _∙_}
-use mathlib.Core.List.{List, _∷_, map}
-use Prim.Native.Nat.{ℕ, _≤_, _<_}
-use native.Mathlib.Omega.{arith}
-use lib.ListN.{length}
+use mathlib.Core.Path.{_≡_, ap, _∙_}
+use mathlib.Core.List.{List, _∷_}
+use Prim.Native.Nat.{ℕ}
 use Rattle.meaning.specs.declared.Mode.{Mode}
 use Rattle.meaning.specs.Image.{indexOf}
 use Rattle.meaning.specs.Score as sc
-use Rattle.meaning.specs.Score.{mentionOf, mentions}
+use Rattle.meaning.specs.Score.{mentions}
 use Rattle.meaning.specs.Answer.{filled, answerOf, answer}
 use Rattle.meaning.specs.IndexLaws.{index-is, docs-small}
 use Rattle.ranking.specs.Rows.{rowsOf}
 use Rattle.runs.specs.Found.{found-answer}
 use Rattle.sheet.specs.declared.Record.{Record}
-use Rattle.sheet.specs.Record.{pairsFrom, recordOf}
+use Rattle.sheet.specs.Record.{recordOf}
 use Rattle.mentions.specs.declared.Mention.{Mention}
 use Rattle.walk.specs.Walk.{meantOf}
 use Rattle.search.specs.declared.Found.{Found}
@@ -27,7 +25,7 @@ abbrev pub writtenOf : ℕ → Found → List ℕ
 writtenOf k f = f .place ∷ f .table .len ∷ f .scored ∷ filled k (rowsOf (f .table))
 
 -- what is found by a mode's rule is its answer
-pub found-writes :
+found-writes :
     (mode : Mode) (ms : List sc.Mention) (k budget N : ℕ) (f : Found) → FoundBy mode ms k budget N f → writtenOf k f ≡ answerOf mode ms k budget N
 found-writes mode ms k budget N f by =
     ap (λ (n : ℕ). f .place ∷ n ∷ f .scored ∷ filled k (rowsOf (f .table))) (by .size)

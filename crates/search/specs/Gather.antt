@@ -1,13 +1,11 @@
 -- The mentions of a query as they begin, and the pairs that they come from.
 use Prim.Native.Nat.{ℕ, _+_, _*_, _≤_, _<_}
 use mathlib.Core.Path.{_≡_}
-use mathlib.Core.List.{List, map}
-use lib.ListN.{length, getD, take}
+use mathlib.Core.List.{List}
+use lib.ListN.{length, getD}
 use Rattle.meaning.specs.Image.{indexOf}
-use Rattle.meaning.specs.Score.{mentionOf}
-use Rattle.sheet.specs.Record.{pairsFrom}
 use Rattle.mentions.specs.declared.Mention.{Mention}
-use Rattle.mentions.specs.Mentions.{none, meant}
+use Rattle.mentions.specs.Mentions.{none}
 use Rattle.walk.specs.Stand.{Stands}
 
 -- a mention of this term and weight that stands at its list's first posting

@@ -4,23 +4,22 @@ use mathlib.Core.List.{List, [], _∷_, map}
 use Prim.Native.Nat.{ℕ, zero, suc, _+_, _*_, _≤_, _<_}
 use native.Mathlib.Nat.{add-zero, mul-le-mul}
 use native.Mathlib.Omega.{arith}
-use lib.ListN.{length, getD, take, set, length-set}
+use lib.ListN.{length, getD, set, length-set}
 use lib.Seq.{getD-set-same, getD-set-other}
 use Rattle.lists.specs.Tests.{by-order}
 use Rattle.meaning.specs.Judged.{good}
-use Rattle.meaning.specs.Image.{Index, imageOf, indexOf, Accepted}
-use Rattle.meaning.specs.Score.{noTerm, mentionOf}
-use Rattle.meaning.specs.Score as sc
+use Rattle.meaning.specs.Image.{imageOf, indexOf, Accepted}
+use Rattle.meaning.specs.Score.{mentionOf}
 use Rattle.meaning.specs.ImageLaws.{impact-top}
 use Rattle.meaning.specs.IndexLaws.{index-is, list-rises, largest-true}
 use Rattle.cursor.specs.declared.Cursor.{Cursor}
 use Rattle.cursor.specs.Left.{termOf, leftOf}
 use Rattle.cursor.specs.Sound.{Sound}
 use Rattle.cursor.specs.PostingLaws.{below-zero}
-use Rattle.sheet.specs.Record.{pairAt, pairsFrom}
+use Rattle.sheet.specs.Record.{pairsFrom}
 use Rattle.mentions.specs.declared.Mention.{Mention}
-use Rattle.mentions.specs.Mentions.{none, meant}
-use Rattle.walk.specs.Stand.{Fair, Stands}
+use Rattle.mentions.specs.Mentions.{none}
+use Rattle.walk.specs.Stand.{Fair}
 use Rattle.walk.specs.Walk.{meantOf}
 use Rattle.search.specs.Gather.{Begins, Gathered}
 

@@ -12,6 +12,7 @@ use borrow.Author.Tests.{lt-ltb, le-ltb, le-leb, lt-leb, eq-eqb, ne-eqb, leb-tru
 use Rattle.meaning.specs.Judged.{Judged, good, bad, _>>=_, need}
 use Rattle.meaning.specs.JudgedLaws.{need-good, good-same}
 use Rattle.meaning.specs.Sheet.{Pair, Query, within, modeOf, pairsAt, queryAt, queriesAt, sheetOf}
+use Rattle.meaning.specs.SheetLaws.{pairs-good, query-good}
 use Rattle.meaning.specs.Call.{needed}
 use Rattle.meaning.specs.declared.Mode.{Mode}
 use Rattle.meaning.specs.declared.Mode.the-variants.{Plain, Pruned, All}
@@ -19,7 +20,7 @@ use Rattle.sheet.specs.declared.Extent.{Extent}
 use Rattle.sheet.specs.Verdict.{neededOf, roomed}
 use Rattle.sheet.specs.Extent.{fourAt, fairly, extentOf}
 use Rattle.sheet.specs.Record.{pairAt}
-use Rattle.sheet.specs.QueryLaws.{only-good, only-bad, pairs-fit, query-fits}
+use Rattle.sheet.specs.QueryLaws.{only-good, only-bad}
 
 -- what the test of a range told, where the code takes its contrary
 pub in-range : (r t : Bool) → r ≡ t → not r ≡ false → t ≡ true
@@ -128,7 +129,7 @@ module _ (s : List ℕ) (T i at : ℕ) where
       (need-alike (within 1 16 n) 12 i _ _ _ _
       (need-alike (leb (at + 4 + 2 * n) (length s)) 9 i _ _ _ _
       (same-extent (pairsAt s T i (at + 4) n) (modeOf (getD s at 0)) (getD s (at + 1) 0) (getD s (at + 2) 0) n
-      (λ ps e. pairs-fit s T i (at + 4) n ps e .1))))))
+      (λ ps e. pairs-good s T i (at + 4) n ps e .1))))))
 
   pub query-by :
       (j : Judged Extent) → j ≡ fourAt s i at → (j >>= λ e. fairly e (pairsAt s T i (at + 4) (e .q))) ≡ extentOf (queryAt s T i at)
@@ -147,7 +148,7 @@ pub told : (s : List ℕ) (T i at : ℕ) (e : Extent) → good e ≡ extentOf (q
 unfolding extentOf
 told s T i at e h =
     let x = only-good (queryAt s T i at) _ e h in
-    let f = query-fits s T i at (x .0) (x .1) in
+    let f = query-good s T i at (x .0) (x .1) in
     let k : e .k ≡ x .0 .k = ap (λ (y : Extent). y .k) (sym (x .2)) in
     let n : e .q ≡ length (x .0 .pairs) = ap (λ (y : Extent). y .q) (sym (x .2)) in
     record { query = x .0; fine = x .1; same = sym (x .2); k-high = omega arith; q-high = omega arith; inside = omega arith }

@@ -1,18 +1,17 @@
--- What one accepted query gives, where the meaning's laws speak of a whole sheet: its numbers fit, its pairs are those that stand there,
--- the next query begins after them; and what is known of the record that is read from it.
+-- What one accepted query gives, where the meaning's laws speak of a whole sheet: its pairs are those that stand there, the next query
+-- begins after them; and what is known of the record that is read from it.
 use mathlib.Core.Path.{_≡_, refl, sym, ap, _∙_}
 use mathlib.Core.List.{List, [], _∷_}
 use Prim.Native.Nat.{ℕ, zero, suc, _+_, _*_, _≤_, _<_}
 use native.Mathlib.Nat.{add-zero, zero-add}
 use native.Mathlib.Omega.{arith}
 use lib.ListN.{length, getD, take}
-use lib.Dec.{ltb, leb, eqb}
-use borrow.Author.Tests.{ltb-true, leb-true}
+use lib.Dec.{eqb}
 use Rattle.meaning.specs.Judged.{Judged, good, bad, _>>=_}
 use Rattle.meaning.specs.JudgedLaws.{bind-good, need-good, good-same}
-use Rattle.meaning.specs.Sheet.{Pair, Query, within, pairsAt, queryAt, queriesAt, sheetOf}
-use Rattle.meaning.specs.SheetFits.{Within, PairFits, PairsFit, QueryFits, QueriesFit}
-use Rattle.meaning.specs.SheetLaws.{within-true, numbersOf, pair-at, sheet-good, query-at}
+use Rattle.meaning.specs.Sheet.{Pair, Query, within, queryAt, queriesAt, sheetOf}
+use Rattle.meaning.specs.SheetFits.{Within, PairFits, PairsFit, QueriesFit}
+use Rattle.meaning.specs.SheetLaws.{numbersOf, query-good, pair-at, sheet-good, query-at}
 use Rattle.meaning.specs.Call.{needed}
 use Rattle.sheet.specs.declared.Record.{Record}
 use Rattle.sheet.specs.Verdict.{neededOf}
@@ -28,46 +27,6 @@ pub only-bad : {A B : Type 0} (j : Judged A) (f : A → B) (number place : ℕ) 
 only-bad (good a) f number place e = absurd (let z : _≡_ {A = ℕ} 0 1 = cc in omega arith)
 only-bad (bad n p) f number place e = cc
 
--- pairs and a query without fault fit
-module _ (s : List ℕ) (T i : ℕ) where
-  pub pairs-fit : (at q : ℕ) (ps : List Pair) → pairsAt s T i at q ≡ good ps → PairsFit s T at ps × (length ps ≡ q)
-  unfolding pairsAt
-  pairs-fit at zero ps e = rw (← good-same e) (tt, refl)
-  pairs-fit at (suc q) ps e =
-      let a = need-good (ltb (getD s at 0) T) 13 i _ e in
-      let b = need-good (within 1 255 (getD s (at + 1) 0)) 14 i _ (a .1) in
-      let c = bind-good (pairsAt s T i (at + 2) q) _ (b .1) in
-      let r = pairs-fit (at + 2) q (c .0) (c .1) in
-      let p : PairFits s T at (pairAt s at) = record { term = refl; weight = refl; below = ltb-true _ _ (a .0); weighs = within-true 1 255 _ (b .0) } in
-      rw (← good-same (c .2)) ((p, r .0), ap suc (r .1))
-
-  pub query-fits : (at : ℕ) (q : Query) → queryAt s T i at ≡ good q → QueryFits s T at q
-  unfolding queryAt
-  query-fits at q e =
-      let n = getD s (at + 3) 0 in
-      let a = need-good (leb (at + 4) (length s)) 9 i _ e in
-      let b = need-good (leb (getD s at 0) 2) 10 i _ (a .1) in
-      let c = need-good (within 1 64 (getD s (at + 1) 0)) 11 i _ (b .1) in
-      let d = need-good (within 1 16 n) 12 i _ (c .1) in
-      let f = need-good (leb (at + 4 + 2 * n) (length s)) 9 i _ (d .1) in
-      let g = bind-good (pairsAt s T i (at + 4) n) _ (f .1) in
-      let r = pairs-fit (at + 4) n (g .0) (g .1) in
-      let few = within-true 1 16 n (d .0) in
-      let all = leb-true (at + 4 + 2 * n) (length s) (f .0) in
-      rw (← good-same (g .2))
-      (record {
-        four = leb-true _ _ (a .0);
-        kind = leb-true _ _ (b .0);
-        mode = refl;
-        k = refl;
-        rows = within-true 1 64 _ (c .0);
-        budget = refl;
-        count = r .1;
-        terms = omega arith;
-        all = omega arith;
-        pairs = r .0;
-      })
-
 -- the pairs that stand from a number on: how many, and each of them
 module _ (s : List ℕ) where
   pub pairs-length : (at q : ℕ) → length (pairsFrom s at q) ≡ q
@@ -75,7 +34,7 @@ module _ (s : List ℕ) where
   pairs-length at zero = refl
   pairs-length at (suc q) = ap suc (pairs-length (at + 2) q)
 
-  pub pairs-at : (at q j : ℕ) (d : Pair) → j < q → getD (pairsFrom s at q) j d ≡ pairAt s (at + 2 * j)
+  pairs-at : (at q j : ℕ) (d : Pair) → j < q → getD (pairsFrom s at q) j d ≡ pairAt s (at + 2 * j)
   unfolding pairsFrom
   pairs-at at zero j d h = absurd (omega arith)
   pairs-at at (suc q) zero d h = rw (add-zero at)
@@ -84,14 +43,14 @@ module _ (s : List ℕ) where
       rw e (pairs-at (at + 2) q j d (omega arith))
 
   -- pairs that fit are those, and a query without fault is what stands there
-  pub pairs-are : (T at : ℕ) (ps : List Pair) → PairsFit s T at ps → pairsFrom s at (length ps) ≡ ps
+  pairs-are : (T at : ℕ) (ps : List Pair) → PairsFit s T at ps → pairsFrom s at (length ps) ≡ ps
   unfolding pairsFrom
   pairs-are T at [] f = refl
   pairs-are T at (p ∷ ps) f = rw (← f .0 .term, ← f .0 .weight, pairs-are T (at + 2) ps (f .1))
 
   pub query-is : (T i at : ℕ) (q : Query) → queryAt s T i at ≡ good q → queryFrom s at ≡ q
   query-is T i at q e =
-      let f = query-fits s T i at q e in
+      let f = query-good s T i at q e in
       rw (← f .mode, ← f .k, ← f .budget, ← f .count, pairs-are T (at + 4) (q .pairs) (f .pairs))
 
   -- a record has as many terms as the query that it stands for
@@ -108,7 +67,7 @@ pub record RecordFits (s : List ℕ) (T : ℕ) (r : Record) : Type 0 where
 pub record-fits :
     (s : List ℕ) (T i at : ℕ) (q : Query) (r : Record) → queryAt s T i at ≡ good q → IsRecord s at r → RecordFits s T r
 record-fits s T i at q r e is =
-    let f = query-fits s T i at q e in
+    let f = query-good s T i at q e in
     let same : recordOf s r ≡ q = is .0 T i q e in
     let ps : pairsFrom s (r .pairs) (r .q) ≡ q .pairs = ap (λ (x : Query). x .pairs) same in
     let k : r .k ≡ q .k = ap (λ (x : Query). x .k) same in
@@ -124,7 +83,7 @@ record-fits s T i at q r e is =
 
 -- where a record can be read, its four numbers are there
 pub readable-four : (s : List ℕ) (at : ℕ) → Readable s at → at + 4 ≤ length s
-readable-four s at r = query-fits s (r .T) (r .i) at (r .query) (r .fine) .four
+readable-four s at r = query-good s (r .T) (r .i) at (r .query) (r .fine) .four
 
 -- the first of the queries without fault, and those after it
 module _ (s : List ℕ) (T : ℕ) where
@@ -183,11 +142,22 @@ module _ (s : List ℕ) (T : ℕ) where
   needed-bound at [] f = omega arith
   needed-bound at (q ∷ qs) f = omega (arith, f .0 .rows, needed-bound (at + 4 + 2 * length (q .pairs)) qs (f .1))
 
--- what a judged sheet's count says of the sheet, and what its fault does
+-- the next stretch starts after this one's 3 + 2k numbers, and no stretch passes the numbers needed
+pub needed-next : (qs : List Query) (i : ℕ) → i < length qs → (d : Query) → needed (take (i + 1) qs) ≡ needed (take i qs) + (3 + 2 * getD qs i d .k)
+unfolding needed
+needed-next [] i h d = absurd (omega arith)
+needed-next (q ∷ qs) zero h d = omega arith
+needed-next (q ∷ qs) (suc i) h d =
+    let e : suc i + 1 ≡ suc (i + 1) = omega arith in
+    rw e (omega (arith, needed-next qs i (omega arith) d))
+
+pub needed-most : (qs : List Query) (i : ℕ) → needed (take i qs) ≤ needed qs
+unfolding needed
+needed-most qs zero = omega arith
+needed-most [] (suc i) = omega arith
+needed-most (q ∷ qs) (suc i) = omega (arith, needed-most qs i)
+
+-- what a judged sheet's count says of the sheet
 pub needed-good : (j : Judged (List Query)) (count : ℕ) → good count ≡ neededOf j → (qs : List Query) × (j ≡ good qs) × (needed qs ≡ count)
 unfolding neededOf
 needed-good j count e = only-good j needed count e
-
-pub needed-bad : (j : Judged (List Query)) (number place : ℕ) → bad number place ≡ neededOf j → j ≡ bad number place
-unfolding neededOf
-needed-bad j number place e = only-bad j needed number place e

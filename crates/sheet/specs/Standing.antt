@@ -1,12 +1,15 @@
 -- Going through an accepted sheet from query to query: each stands at its number, its record can be read there, and the next stands after its pairs.
 use mathlib.Core.Path.{_≡_, refl}
 use mathlib.Core.List.{List, [], _∷_}
-use Prim.Native.Nat.{ℕ, zero, suc, _+_, _*_, _<_}
+use Prim.Native.Nat.{ℕ, zero, suc, _+_, _*_, _≤_, _<_}
 use native.Mathlib.Omega.{arith}
 use lib.ListN.{length, getD, take}
+use lib.Seq.{take-all}
+use Rattle.lists.specs.Tests.{by-order}
 use Rattle.meaning.specs.Judged.{good}
 use Rattle.meaning.specs.Sheet.{Query, queryAt, sheetOf}
-use Rattle.meaning.specs.SheetLaws.{numbersOf}
+use Rattle.meaning.specs.SheetFits.{QueriesFit}
+use Rattle.meaning.specs.SheetLaws.{numbersOf, query-good, sheet-good}
 use Rattle.sheet.specs.declared.Record.{Record}
 use Rattle.sheet.specs.Record.{Readable, IsRecord, queryFrom}
 use Rattle.sheet.specs.QueryLaws.{RecordFits, record-fits, record-terms, query-here}
@@ -47,3 +50,21 @@ module _ (s : List ℕ) (T : ℕ) (qs : List Query) (i at : ℕ) (st : Standing 
         let d = queryFrom s 0 in
         let n = record-terms s r (getD qs i d) (is .0 T i (getD qs i d) (standing-query d)) in
         record { fine = st .fine; place = omega (arith, is .1, st .place, numbers-next qs i h d) }
+
+-- "numbers missing or left over": the queries of an accepted sheet take all its numbers
+all-numbers : (s : List ℕ) (T at : ℕ) (qs : List Query) → QueriesFit s T at qs → at + numbersOf qs ≡ length s
+unfolding numbersOf
+all-numbers s T at [] f = omega arith
+all-numbers s T at (q ∷ qs) f = omega (arith, all-numbers s T (at + 4 + 2 * length (q .pairs)) qs (f .1))
+
+-- a query stands wherever a number of the sheet is left, and none where no number is
+module _ (s : List ℕ) (T : ℕ) (qs : List Query) (i at : ℕ) (st : Standing s T qs i at) where
+  pub standing-more : at < length s → i < length qs
+  standing-more h =
+      by-order i (length qs) (λ l. l) (λ g.
+      let whole : numbersOf (take i qs) ≡ numbersOf qs = rw (take-all i qs g) in
+      absurd (omega (arith, st .place, all-numbers s T 1 qs (sheet-good s T qs (st .fine) .queries))))
+
+  pub standing-over : length s ≤ at → length qs ≤ i
+  standing-over h =
+      by-order i (length qs) (λ l. let d = queryFrom s 0 in absurd (omega (arith, query-good s T i at (getD qs i d) (standing-query s T qs i at st l d) .four))) (λ g. g)

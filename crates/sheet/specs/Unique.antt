@@ -13,7 +13,7 @@ use Rattle.sheet.specs.Record.{Readable, IsRecord, recordOf}
 use Rattle.sheet.specs.QueryLaws.{pairs-length, record-terms}
 
 -- two verdicts that say the same are the same
-pub verdict-same : (v w : Verdict) → verdict v ≡ verdict w → v ≡ w
+verdict-same : (v w : Verdict) → verdict v ≡ verdict w → v ≡ w
 verdict-same (Refused number place) (Refused n p) e = cc
 verdict-same (Accepted count) (Accepted n) e = cc
 verdict-same (Refused number place) (Accepted n) e = absurd (let z : _≡_ {A = ℕ} 0 1 = cc in omega arith)

@@ -2,18 +2,9 @@
 // The lines of `stdout` are worked out by hand from document 01; the reason of each stands above its case here.
 ghost use mathlib.Core.Path.{_≡_};
 ghost use Prim.Native.Nat.{_≤_, _<_};
-use libc::STDOUT_FILENO;
 use meaning::Mode;
 use sheet::Record;
 use sheet::Verdict;
-
-fn write(text: &[u8]) {
-    io::write_all(STDOUT_FILENO, text);
-}
-
-fn write_number(n: usize) {
-    io::print_decimal(STDOUT_FILENO, n as u64);
-}
 
 fn wide(x: u32) -> usize
     ensures { λ r. ⌜ r ≡ x ⌝ }
@@ -24,22 +15,17 @@ fn wide(x: u32) -> usize
 // The rest of a line: `refused` with number and place, or `fills` with the count.
 fn say(v: Verdict) {
     match v {
-        Verdict::Refused(number, place) => {
-            write(b": refused ");
-            write_number(wide(number));
-            write(b" ");
-            write_number(place);
-        }
+        Verdict::Refused(number, place) => report::refused(number, place),
         Verdict::Accepted(count) => {
-            write(b": fills ");
-            write_number(count);
+            report::text(b": fills");
+            report::count(count);
         }
     }
-    write(b"\n");
+    report::text(b"\n");
 }
 
 fn case(label: &[u8], numbers: &[u32], terms: usize) {
-    write(label);
+    report::text(label);
     say(sheet::judge(numbers, terms));
 }
 
@@ -88,19 +74,19 @@ fn both(label: &[u8], which: usize, value: u32)
 fn show(r: Record) {
     let mode = r.mode;
     match mode {
-        Mode::Plain => write(b"plain"),
-        Mode::Pruned => write(b"pruned"),
-        Mode::All => write(b"all terms"),
+        Mode::Plain => report::text(b"plain"),
+        Mode::Pruned => report::text(b"pruned"),
+        Mode::All => report::text(b"all terms"),
     }
-    write(b", k = ");
-    write_number(r.k);
-    write(b", budget ");
-    write_number(wide(r.budget));
-    write(b", terms ");
-    write_number(r.q);
-    write(b" at ");
-    write_number(r.pairs);
-    write(b"\n");
+    report::text(b", k =");
+    report::count(r.k);
+    report::text(b", budget");
+    report::number(r.budget);
+    report::text(b", terms");
+    report::count(r.q);
+    report::text(b" at");
+    report::count(r.pairs);
+    report::text(b"\n");
 }
 
 // Each query's record of an accepted sheet.
@@ -228,11 +214,11 @@ fn in_order() {
 
 // 15 comes last, at the numbers needed.
 fn rooms() {
-    write(b"64 queries, a row of 320");
+    report::text(b"64 queries, a row of 320");
     say(sheet::room(Verdict::Accepted(320), 320));
-    write(b"64 queries, a row of 319");
+    report::text(b"64 queries, a row of 319");
     say(sheet::room(Verdict::Accepted(320), 319));
-    write(b"k = 65, an empty row");
+    report::text(b"k = 65, an empty row");
     say(sheet::room(Verdict::Refused(11, 0), 0));
 }
 

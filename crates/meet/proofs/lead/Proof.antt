@@ -1,7 +1,7 @@
 -- `lead` meets its contract: from place i on the first q are in order, and each turn settles one mention more.
 use Rattle.mentions.specs.Mentions.{none}
 use Rattle.meet.specs.Meet.{postingsLeft}
-use Rattle.meet.proofs.Settling.{sortedFrom, sort-none, sort-turn}
+use Rattle.lists.specs.Settling.{sortedFrom, sort-none, sort-turn}
 use mathlib.Core.Path.{_≡_, _∙_}
 use Prim.Native.Nat.{_+_, _-_, _≤_}
 use native.Mathlib.Omega.{arith}

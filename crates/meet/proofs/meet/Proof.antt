@@ -1,5 +1,5 @@
 -- `meet` meets its contract: each turn looks at one mention, and the run from the document that the loop is at stays the run.
-use mathlib.Core.Path.{_≡_, ap}
+use mathlib.Core.Path.{_≡_}
 use mathlib.Core.Logic.{⊎-elim}
 use Prim.Native.Nat.{_+_, _-_, _*_, _≤_}
 use native.Mathlib.Omega.{arith}
@@ -10,7 +10,6 @@ use Rattle.walk.specs.StandLaws.{stands-fits}
 use Rattle.walk.specs.Walk.{meantOf}
 use Rattle.meet.specs.Meet.{meetBy}
 use Rattle.meet.proofs.Turns.{Looping, Found, here, found-sought, found-here, hits, rises, misses, stops, enters, passes, finished, starts}
-use Rattle.walk.specs.declared.Visit.{Visit}
 use Rattle.meet.proofs.meet.Statement.{statement}
 use Rattle.meet.proofs.meet.Tie as tie
 
@@ -126,9 +125,7 @@ ended-requires c κs = search needs
 returns : tie.Need-returns Inv-loop μ-loop
 returns c =
     let d = c .before .before .before in
-    let x = stops (d .before .loop .inv) (d .loop-test .taken) (c .before .before .if1 .left) (c .before .if4 .taken) (c .ended .ensures) in
-    let some = d .before .loop .inv .least in
-    (x .0, (omega (arith, some, ap (λ (r : Visit). r .past) (c .ended .ensures)), x .1))
+    stops (d .before .loop .inv) (d .loop-test .taken) (c .before .before .if1 .left) (c .before .if4 .taken) (c .ended .ensures)
 
 add-count : tie.Need-add-count Inv-loop μ-loop
 add-count c = search needs
@@ -145,9 +142,7 @@ ended-requires-2 c κs = search needs
 returns-2 : tie.Need-returns-2 Inv-loop μ-loop
 returns-2 c =
     let d = c .before .before .before .before in
-    let x = enters (d .before .loop .inv) (d .loop-test .taken) (c .before .before .before .if1 .left) (c .before .before .if4 .left) (c .before .if5 .taken) (c .ended2 .ensures) in
-    let some = d .before .loop .inv .least in
-    (x .0, (omega (arith, some, ap (λ (r : Visit). r .past) (c .ended2 .ensures)), x .1))
+    enters (d .before .loop .inv) (d .loop-test .taken) (c .before .before .before .if1 .left) (c .before .before .if4 .left) (c .before .if5 .taken) (c .ended2 .ensures)
 
 loop-less-3 : tie.Need-loop-less-3 Inv-loop μ-loop
 loop-less-3 c =
@@ -165,8 +160,7 @@ ended-requires-3 c κs = search needs
 
 returns-3 : tie.Need-returns-3 Inv-loop μ-loop
 returns-3 c =
-    let x = finished (c .before .before .loop .inv) (c .before .loop-test .left) (c .ended3 .ensures) in
-    (x .0, (omega (arith, c .before .loop-test .left, ap (λ (r : Visit). r .past) (c .ended3 .ensures)), x .1))
+    finished (c .before .before .loop .inv) (c .before .loop-test .left) (c .ended3 .ensures)
 
 pub meet-spec : {M : Type 1} → statement M
 meet-spec =

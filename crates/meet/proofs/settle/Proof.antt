@@ -1,11 +1,11 @@
 -- `settle` meets its contract: with the mention in hand settled from the open place on, the array is the one asked for.
 use mathlib.Core.Logic.{⊎-elim}
 use Rattle.mentions.specs.Mentions.{none}
-use Rattle.meet.specs.Sorted.{settledIn}
+use Rattle.lists.specs.Sorted.{settledIn}
 use Rattle.meet.specs.Meet.{postingsLeft}
-use Rattle.meet.proofs.Settling.{settle-on, settle-before, settle-last}
+use Rattle.lists.specs.Settling.{settle-on, settle-before, settle-last}
 use mathlib.Core.Path.{_≡_, refl, _∙_}
-use Prim.Native.Nat.{_-_, _<_}
+use Prim.Native.Nat.{_+_, _-_, _<_}
 use native.Mathlib.Omega.{arith}
 use lib.ListN.{length, getD}
 use borrow.Author.Needs.{needs}
@@ -64,7 +64,9 @@ loop-again c =
     let l = c .before .before .before .before .loop in
     let a = c .before .before .before .before .before .before .before .args in
     let hand = getD (a .ms) (a .i) none in
-    (search needs, search needs, l .inv .2, settle-on postingsLeft none (l .out) (a .q) (l .at) (search needs) hand (search needs) (omega (arith, l .inv .2, c .before .postings-left2 .ensures, c .if1 .left)) ∙ l .inv .3)
+    let lower : postingsLeft (getD (l .out) (l .at + 1) none) < postingsLeft hand =
+    omega (arith, l .inv .2, c .before .postings-left2 .ensures, c .if1 .left) in
+    (search needs, search needs, l .inv .2, settle-on postingsLeft none (l .out) (a .q) (l .at) (search needs) hand (search needs) lower ∙ l .inv .3)
 
 mul-out-2 : tie.Need-mul-out-2 Inv-loop μ-loop
 mul-out-2 c = search needs

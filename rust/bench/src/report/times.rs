@@ -57,14 +57,12 @@ pub fn times() -> Result<String, String> {
         .join("\n"))
 }
 
-/// The processor, where the system tells it.
+/// The processor: what `lscpu` calls it, and what the code was compiled for.
 fn machine() -> String {
-    let told = std::fs::read_to_string("/proc/cpuinfo").unwrap_or_default();
-    let model = told
-        .lines()
-        .find_map(|line| line.strip_prefix("model name"))
-        .map(|rest| rest.trim_start_matches([' ', '\t', ':']));
-    model.unwrap_or("unknown processor").into()
+    let told = std::process::Command::new("lscpu").output().map(|run| run.stdout).unwrap_or_default();
+    let told = String::from_utf8_lossy(&told);
+    let model = told.lines().find_map(|line| line.strip_prefix("Model name:")).map_or("unknown processor", str::trim);
+    format!("{model} ({})", std::env::consts::ARCH)
 }
 
 fn milliseconds(times: Times) -> Cost {

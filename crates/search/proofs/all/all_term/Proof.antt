@@ -1,27 +1,22 @@
-use mathlib.Core.Path.{_≡_, refl, sym, ap, _∙_}
-use Prim.Native.Nat.{ℕ, suc, _+_, _-_, _*_, _≤_, _<_}
+-- `all_term`: each walk of mode 2 by the law of its end, the shortest list first.
+use mathlib.Core.Path.{_≡_, ap, _∙_}
+use Prim.Native.Nat.{_+_, _-_, _≤_}
 use native.Mathlib.Omega.{arith}
-use lib.ListN.{length, take, drop, getD, set}
+use lib.ListN.{length}
 use borrow.Author.Needs.{needs}
 use mathlib.Core.List.{List}
 use Rattle.meaning.specs.Score as sc
 use Rattle.runs.specs.AllVisits.{meetAt}
 use Rattle.mentions.specs.declared.Mention.{Mention}
-use Rattle.walk.specs.Stand.{Lags}
+use Rattle.walk.specs.Stand.{Stands}
 use Rattle.walk.specs.Walk.{meantOf}
 use Rattle.meet.specs.Meet.{Meets}
+use Rattle.meet.specs.MeetLaws.{meets-first}
 use Rattle.meet.specs.LeadLaws.{lead-same, lead-each}
 use Rattle.search.proofs.AnyLoop.{served-fit, served-length}
 use Rattle.search.proofs.AllLoop.{Ground, Going, going-first, going-finished, going-stopped, going-entered, entered-under, going-falls}
 use Rattle.search.proofs.all.all_term.Statement.{statement}
 use Rattle.search.proofs.all.all_term.Tie as tie
-use Rattle.search.proofs.all.all_term.Reads as reads
-use Rattle.search.proofs.all.all_term.Lts as lts
-use Rattle.meet.proofs.lead.Reads as lead-reads
-use Rattle.meet.proofs.meet.Reads as meet-reads
-use Rattle.ranking.proofs.Table.bar.Reads as bar-reads
-use Rattle.ranking.proofs.Table.insert.Reads as insert-reads
-use Rattle.ranking.proofs.empty.Reads as empty-reads
 
 abbrev Inv-loop : tie.InvT-loop
 Inv-loop image q k budget docs os₀ table₀ bar₀ count₀ past₀ os table bar count past =
@@ -52,19 +47,12 @@ ground c =
     }
 
 -- where the first walk starts
-meets-first : (c : tie.After-lead Inv-loop μ-loop) → Meets (c .before .before .args .image .now) (c .lead .result) (c .before .before .args .q) 1 0
-meets-first c =
+starts : (c : tie.After-lead Inv-loop μ-loop) → Meets (c .before .before .args .image .now) (c .lead .result) (c .before .before .args .q) 1 0
+starts c =
     let a = c .before .before .args in
     let v = c .before .before .pre in
     let few : a .q ≤ length (a .ms) = omega (arith, long c, v .few) in
-    record {
-      some = v .some;
-      few = v .few;
-      least = omega arith;
-      most = omega arith;
-      lags = rw (c .lead .ensures) (lead-each (a .q) (a .ms) few (Lags (a .image .now) 0) (λ x h. (0, omega arith, v .stands x h)));
-      spare = omega arith;
-    }
+    meets-first (v .some) (v .few) (rw (c .lead .ensures) (lead-each (a .q) (a .ms) few (Stands (a .image .now) 0) (v .stands)))
 
 -- src/all.rt:16:9
 lead-requires : tie.Need-lead-requires Inv-loop μ-loop
@@ -77,7 +65,7 @@ empty-requires c κs = search needs
 -- src/all.rt:21:5
 loop-holds : tie.Need-loop-holds Inv-loop μ-loop
 loop-holds c =
-    λ μs g. going-first g (meets-first (c .before)) (c .empty .ensures .0) (c .empty .ensures .1)
+    λ μs g. going-first g (starts (c .before)) (c .empty .ensures .0) (c .empty .ensures .1)
 
 -- src/all.rt:22:13
 meet-requires : tie.Need-meet-requires Inv-loop μ-loop

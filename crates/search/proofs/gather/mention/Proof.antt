@@ -10,13 +10,6 @@ use Rattle.search.proofs.gather.mention.Tie as tie
 open-list-requires : tie.Need-open-list-requires
 open-list-requires c κs = search needs
 
-mul-t6 : tie.Need-mul-t6
-mul-t6 c =
-    let x = c .before .before .before .before in
-    let a = x .args in
-    let o = c .before .before .open-list in
-    omega (arith, ceiling-most (a .image .now) (x .pre .0) (a .term) (x .pre .1) (a .weight) (o .result .largest) (x .pre .3) (o .ensures .3))
-
 returns : tie.Need-returns
 returns c =
     let x = c .before .before .before .before in
@@ -25,6 +18,13 @@ returns c =
     let ceiling = ap (λ (n : ℕ). a .weight * n) (o .ensures .3) in
     opened-begins (a .image .now) (x .pre .0) (a .term) (x .pre .1) (a .weight) (a .weight * o .result .largest) (x .pre .2) (x .pre .3) ceiling
     (o .result .cursor) (o .ensures .0) (o .ensures .1)
+
+mul-t6 : tie.Need-mul-t6
+mul-t6 c =
+    let x = c .before .before .before .before in
+    let a = x .args in
+    let o = c .before .before .open-list in
+    omega (arith, ceiling-most (a .image .now) (x .pre .0) (a .term) (x .pre .1) (a .weight) (o .result .largest) (x .pre .3) (o .ensures .3))
 
 pub mention-spec : {M : Type 1} → statement M
 mention-spec = tie.close (tie.spec open-list-requires mul-t6 returns)

@@ -1,6 +1,6 @@
 -- `write` meets its contract: after i turns the first 3 + 2i numbers stand, and after k the whole stretch.
 use mathlib.Core.Path.{_≡_, refl, sym, ap, _∙_}
-use Prim.Native.Nat.{ℕ, _+_, _-_, _*_, _≤_, _<_}
+use Prim.Native.Nat.{ℕ, _+_, _-_, _*_, _≤_}
 use mathlib.Core.List.{List, _++_}
 use mathlib.Core.Logic.{⊎-elim}
 use native.Mathlib.Omega.{arith}
@@ -39,7 +39,7 @@ slice-write-out-3 : tie.Need-slice-write-out-3 Inv-loop μ-loop
 slice-write-out-3 c =
     let a = c .before .args in
     let f = a .found in
-    lt-length-set (set (a .out .now) 0 (f .place)) 1 (f .table .len) (lt-length-set (a .out .now) 0 (f .place) (omega (arith, c .before .pre .2)))
+    lt-length-set (set (a .out .now) 0 (f .place)) 1 _ (lt-length-set (a .out .now) 0 (f .place) (omega (arith, c .before .pre .2)))
 
 loop-holds : tie.Need-loop-holds Inv-loop μ-loop
 loop-holds c =

@@ -1,0 +1,13 @@
+pub mod Text
+pub mod Laid
+pub mod Printable
+pub mod Decide
+pub mod Numbers
+pub mod TextLaws
+pub mod DecimalLaws
+pub mod LaidLaws
+pub mod DecideLaws
+pub mod NumbersLaws
+pub mod PrintableLaws
+pub mod OnlyLaws
+pub mod Examples
