@@ -1,18 +1,16 @@
 -- Postings that are fair as they were weighed together are read with no fault: what is kept of them, by sums over their numbers.
-use Prim.Native.Nat.{ℕ, zero, suc, _+_, _-_, _*_, _/_, _%_, _≤_, _<_, max}
+use Prim.Native.Nat.{ℕ, zero, suc, _+_, _-_, _*_, _/_, _%_, _≤_, _<_}
 use mathlib.Core.Path.{_≡_, refl, sym, ap, _∙_}
-use mathlib.Core.Bool.{_&&_}
 use mathlib.Core.List.{List, [], _∷_}
-use native.Mathlib.Nat.{add-assoc}
 use native.Mathlib.Omega.{arith}
-use lib.Dec.{ltb, leb}
+use lib.Dec.{leb}
 use borrow.Author.Tests.{lt-ltb, leb-true, leb-false}
 use Rattle.lists.specs.Tests.{by-test}
 use Rattle.meaning.specs.Bits.{bitsAt}
-use Rattle.meaning.specs.Judged.{Judged, good, _>>=_, need}
+use Rattle.meaning.specs.Judged.{Judged, good}
 use Rattle.meaning.specs.Image.{Posting, nextOf, largestOf, postingsAt}
 use Rattle.bits.specs.BitsSplit.{bits-first, bits-second}
-use Rattle.image.specs.Answers.{keep, Kept, keptOf}
+use Rattle.image.specs.Answers.{keep, keptOf}
 use Rattle.image.specs.Lanes.{sumAt}
 use Rattle.image.specs.Gathering.{Filled, Weighs}
 use Rattle.image.specs.Weighing.{gapOf, faultOf, reachOf}

@@ -131,25 +131,35 @@ module _ (w k L : ℕ) (row : List ℕ) where
   pub weighed-gaps : (i gaps bad hit : ℕ) → Weighed w k L row i gaps bad hit → sumLanes (λ y. y) (w + 8) (gaps / 256) k ≡ sumWords gapOf (w + 8) k row i
   weighed-gaps i gaps bad hit x = x .gathered .sum
 
--- the n fields of S bits from bit `at` on came as words of k each after the first i₀ of a row: sums over the words' lanes are sums over the fields, with some stand-ins of 1
-pub record Added (s : List ℕ) (S k at n : ℕ) (row₀ : List ℕ) (i₀ : ℕ) (row : List ℕ) (i : ℕ) : Type 0 where
+-- p words of k fields each from bit `start` on, and p words from bit `other` on, are the first of a row: sums over lanes are sums over fields
+abbrev pub Halves : List ℕ → ℕ → ℕ → ℕ → ℕ → ℕ → List ℕ → Type 0
+Halves s S k start other p row = (f : ℕ → ℕ) → sumWords f S k row (2 * p) ≡ sumAt f s S start (p * k) + sumAt f s S other (p * k)
+
+-- the n fields from bit `at` on came as words of k each after the first i₀ words, with some stand-ins of 1
+pub record Coming (s : List ℕ) (S k at : ℕ) (row₀ : List ℕ) (i₀ n : ℕ) (row : List ℕ) (i : ℕ) : Type 0 where
   pub pad : ℕ
   pub sums : (f : ℕ → ℕ) → sumWords f S k row i ≡ sumWords f S k row₀ i₀ + sumAt f s S at n + pad * f 1
 
 module _ (s : List ℕ) (S k at : ℕ) (row₀ : List ℕ) (i₀ : ℕ) where
-  pub added-none : (n : ℕ) → n ≡ 0 → Added s S k at n row₀ i₀ row₀ i₀
+  pub coming-none : (n : ℕ) → n ≡ 0 → Coming s S k at row₀ i₀ n row₀ i₀
   unfolding sumAt
-  added-none n z = record { pad = 0; sums = λ f. rw z (omega arith) }
+  coming-none n z = record { pad = 0; sums = λ f. rw z (omega arith) }
 
   -- a word more of r fields
-  pub added-more : (n m r : ℕ) (row : List ℕ) (i x : ℕ) → m ≡ n + r → i < length row →
+  pub coming-more : (n m r : ℕ) (row : List ℕ) (i x : ℕ) → m ≡ n + r → i < length row →
       ((f : ℕ → ℕ) → sumLanes f S x k ≡ sumAt f s S (at + n * S) r + (k - r) * f 1) →
-      Added s S k at n row₀ i₀ row i → Added s S k at m row₀ i₀ (set row i x) (i + 1)
-  added-more n m r row i x e h p a =
+      Coming s S k at row₀ i₀ n row i → Coming s S k at row₀ i₀ m (set row i x) (i + 1)
+  coming-more n m r row i x e h p a =
       record {
         pad = a .pad + (k - r);
         sums = λ f. rw (e, words-more f S k row i x h, sum-append f s S at n r, a .sums f, p f) (omega arith);
       }
+
+-- all of them, with no more words than it takes
+pub record Added (s : List ℕ) (S k at n : ℕ) (row₀ : List ℕ) (i₀ : ℕ) (row : List ℕ) (i : ℕ) : Type 0 where
+  pub few : i ≤ i₀ + n
+  pub tight : i * k ≤ i₀ * k + n + k
+  pub came : Coming s S k at row₀ i₀ n row i
 
 -- the n fields from bit `start` on, as the first words of a row
 pub record Filled (s : List ℕ) (S k start n : ℕ) (row : List ℕ) (count : ℕ) : Type 0 where
@@ -160,21 +170,20 @@ pub record Filled (s : List ℕ) (S k start n : ℕ) (row : List ℕ) (count : �
 
 -- two halves of h fields side by side, p words each with r fields left, and t fields after them
 pub filled :
-    (s : List ℕ) (S k start h p r t n : ℕ) (a b c d : List ℕ) (j l m : ℕ) → h ≡ p * k + r → n ≡ h + h + t → m ≤ 128 → m * k ≤ n + 3 * k →
-    ((f : ℕ → ℕ) → sumWords f S k a (2 * p) ≡ sumAt f s S start (p * k) + sumAt f s S (start + h * S) (p * k)) →
-    Added s S k (start + p * k * S) r a (2 * p) b j → Added s S k (start + h * S + p * k * S) r b j c l → Added s S k (start + (h + h) * S) t c l d m →
-    Filled s S k start n d m
-filled s S k start h p r t n a b c d j l m eh en few tight e x y z =
+    (s : List ℕ) (S k start h p r t n : ℕ) (a b c d : List ℕ) (j l m : ℕ) → h ≡ p * k + r → n ≡ h + h + t → p ≤ p * k → n ≤ 128 →
+    Halves s S k start (start + h * S) p a → Added s S k (start + p * k * S) r a (2 * p) b j → Added s S k (start + h * S + p * k * S) r b j c l →
+    Added s S k (start + (h + h) * S) t c l d m → Filled s S k start n d m
+filled s S k start h p r t n a b c d j l m eh en less few e x y z =
     record {
-      few = few;
-      tight = tight;
-      pad = x .pad + y .pad + z .pad;
+      few = omega (arith, x .few, y .few, z .few);
+      tight = omega (arith, x .tight, y .tight, z .tight);
+      pad = x .came .pad + y .came .pad + z .came .pad;
       sums = λ f.
           let q = p * k in
           let one = ap (sumAt f s S start) eh ∙ sum-append f s S start q r in
           let two = ap (sumAt f s S (start + h * S)) eh ∙ sum-append f s S (start + h * S) q r in
           let at : start + h * S + h * S ≡ start + (h + h) * S = omega arith in
-          rw (en, sum-append f s S start (h + h) t, sum-append f s S start h h) (omega (arith, one, two, e f, x .sums f, y .sums f, z .sums f));
+          rw (en, sum-append f s S start (h + h) t, sum-append f s S start h h) (omega (arith, one, two, e f, x .came .sums f, y .came .sums f, z .came .sums f));
     }
 
 -- what weighing says

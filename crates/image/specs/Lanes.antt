@@ -129,11 +129,25 @@ words-more f S k row i x h = rw (add-one i, words-kept f S k row i x i (omega ar
 
 -- so many postings with gaps of w bits are read at once: a word has 57 bits for them, wherever in a byte they begin
 pub record Packs (w k : ℕ) : Type 0 where
+  pub width : w ≤ 24
   pub some : 0 < k
   pub few : k ≤ 6
   pub gapless : w ≡ 0 → k ≡ 6
   pub least : 13 ≤ k * (w + 8)
   pub most : k * (w + 8) ≤ 57
+
+-- n fields of S bits from bit `start` on are there, to be read by words of k
+pub record Packed (s : List ℕ) (S k start n : ℕ) : Type 0 where
+  pub bytes : length s < 16777216
+  pub lane : 0 < S
+  pub some : 0 < k
+  pub few : k ≤ 6
+  pub word : k * S ≤ 57
+  pub inside : start + n * S ≤ 8 * length s
+
+-- others that are there
+pub packed-too : {s : List ℕ} {S k start n : ℕ} (at m : ℕ) → Packed s S k start n → at + m * S ≤ 8 * length s → Packed s S k at m
+packed-too at m p h = record { bytes = p .bytes; lane = p .lane; some = p .some; few = p .few; word = p .word; inside = h }
 
 -- the lanes of a word whose lowest 57 bits are those from bit a on
 pub word-sum : (f : ℕ → ℕ) (s : List ℕ) (S k a x : ℕ) → k * S ≤ 57 → x % 2 ^ 57 ≡ bitsAt s a 57 → sumLanes f S x k ≡ sumAt f s S (a + (57 - k * S)) k
@@ -170,8 +184,9 @@ words-pair f s S k start other row i a b h p q e =
     let here : start + i * k * S ≡ start + i * (k * S) = omega arith in
     let there : other + i * k * S ≡ other + i * (k * S) = omega arith in
     let len : length (set row (2 * i) a) ≡ length row = length-set row (2 * i) a in
-    rw (m, sum-append f s S start (i * k) k, sum-append f s S other (i * k) k, here, there, ← p, ← q, n, words-more f S k (set row (2 * i) a) (2 * i + 1) b (omega arith), words-more f S k row (2 * i) a (omega arith), e)
-    (omega arith)
+    rw (m, sum-append f s S start (i * k) k, sum-append f s S other (i * k) k, here, there, ← p, ← q, n)
+    (rw (words-more f S k (set row (2 * i) a) (2 * i + 1) b (omega arith), words-more f S k row (2 * i) a (omega arith), e)
+    (omega arith))
 
 -- one lane more with a 1: nothing is shifted out
 pub record Longer (S i : ℕ) : Type 0 where

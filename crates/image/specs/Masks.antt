@@ -1,9 +1,9 @@
 -- Masks over lanes: what `&` takes out of each lane of a word, and what the one bit that is kept free above each impact tells.
-use Prim.Native.Nat.{ℕ, zero, suc, _+_, _-_, _*_, _/_, _%_, _^_, _≤_, _<_, min, max}
+use Prim.Native.Nat.{ℕ, zero, suc, _+_, _-_, _*_, _/_, _%_, _^_, _<_, min, max}
 use mathlib.Core.Path.{_≡_, refl, sym, ap, _∙_}
 use native.Mathlib.Nat.{mod-lt, pow-suc}
 use native.Mathlib.Omega.{arith}
-use lib.Bits.{bitAnd, bitOr, and-block, and-step, or-step, and-zero-l, and-zero-r, or-zero-l, and-le-l, and-le-r, or-add-and, and-high}
+use lib.Bits.{bitAnd, bitOr, and-block, and-step, or-step, and-zero-r, and-le-l, and-le-r, or-add-and, and-high}
 use lib.Pow.{pow-pos, split, high, low}
 use Rattle.image.specs.Lanes.{sumLanes, onesOf}
 

@@ -1,9 +1,8 @@
 -- Weighing a block's postings, several in a word: what the sums and masks of a word tell of the gaps and the impacts in its lanes.
-use Prim.Native.Nat.{ℕ, zero, suc, _+_, _-_, _*_, _/_, _%_, _^_, _≤_, _<_}
-use mathlib.Core.Path.{_≡_, refl, sym, ap, _∙_}
-use native.Mathlib.Nat.{mod-lt, mul-comm}
+use Prim.Native.Nat.{ℕ, _+_, _-_, _*_, _/_, _%_, _^_, _≤_, _<_}
+use mathlib.Core.Path.{_≡_, sym, ap, _∙_}
 use native.Mathlib.Omega.{arith}
-use lib.Bits.{bitAnd, bitOr, and-mask, and-high}
+use lib.Bits.{bitAnd, and-mask, and-high}
 use lib.Pow.{pow-add, pow-mono, pow-pos, high-ones, shr-mod}
 use Rattle.image.specs.Lanes.{sumLanes, onesOf}
 use Rattle.image.specs.Masks.{spread, spread-same, spread-add, spread-times, spread-each, spread-and, spread-spread, spread-none, none-spread, ninth}
@@ -39,7 +38,12 @@ module _ (w k L v : ℕ) (some : 0 < w) (byte : L ≤ 255) where
   -- the impacts with c added to each, and what bit 8 of each says
   raised : (c : ℕ) → c ≤ 256 → bitAnd (impacts + c * ones) (256 * ones) ≡ spread (λ y. bitAnd (y % 256 + c) 256) S v k
   raised c h =
-      ap (λ (z : ℕ). bitAnd z (256 * ones)) (ap (λ (z : ℕ). z + c * ones) impacts-are ∙ ap (λ (z : ℕ). spread (λ y. y % 256) S v k + z) (spread-each c S v k) ∙ spread-add (λ y. y % 256) (λ y. c) S v k)
+      let sum : impacts + c * ones ≡ spread (λ y. y % 256 + c) S v k =
+      ap (λ (z : ℕ). z + c * ones) impacts-are
+      ∙ ap (λ (z : ℕ). spread (λ y. y % 256) S v k + z) (spread-each c S v k)
+      ∙ spread-add (λ y. y % 256) (λ y. c) S v k
+      in
+      ap (λ (z : ℕ). bitAnd z (256 * ones)) sum
       ∙ spread-and 256 S (spread (λ y. y % 256 + c) S v k) k (omega (arith, nine))
       ∙ spread-spread (λ y. y % 256 + c) (λ z. bitAnd z 256) S v k (λ y l. omega (arith, nine))
 

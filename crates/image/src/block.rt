@@ -68,7 +68,7 @@ pub fn judge_each(part: &[u8], docs: u64, w: usize, start: usize, first: u64, n:
     Postings::Good(next, top)
 }
 
-// The same postings by words. Documents rise, so that the last one alone tells whether all are below N; whatever is at fault, `Wrong` says no more than that it was not shown good.
+// The same postings by words. Documents rise, so that the last one alone tells whether all are below N. `Wrong` says no more than that they were not shown good.
 fn judge_words(
     part: &[u8],
     docs: u64,

@@ -4,8 +4,8 @@ ghost use mathlib.Core.Path.{_≡_};
 ghost use Prim.Native.Nat.{ℕ, _+_, _-_, _*_, _/_, _%_, _^_, _≤_, _<_, min};
 ghost use lib.ListN.{length};
 ghost use Rattle.meaning.specs.Bits.{bitsAt};
-ghost use Rattle.image.specs.Lanes.{Packs, Bytewise, sumLanes, sumAt, sumWords, onesOf};
-ghost use Rattle.image.specs.Gathering.{Added, Filled, Weighs};
+ghost use Rattle.image.specs.Lanes.{Packs, Packed, Bytewise, sumLanes, sumAt, sumWords, onesOf};
+ghost use Rattle.image.specs.Gathering.{Halves, Added, Filled, Weighs};
 
 // So many postings with gaps of w bits are read as one word.
 pub fn per_word(w: usize) -> usize
@@ -62,8 +62,8 @@ fn fill(
     pairs: usize,
     room: &mut [u64],
 )
-    requires { ⌜ (length (now part) < 16777216) × (k * stride ≤ 57) × (57 ≤ start + k * stride) × (2 * pairs ≤ length (now room)) × (start + 8 * far + pairs * (k * stride) ≤ 8 * length (now part)) ⌝ }
-    ensures { λ r. ⌜ ((f : ℕ → ℕ) → sumWords f stride k (now (room .exit)) (2 * pairs) ≡ sumAt f (now (part .entry)) stride start (pairs * k) + sumAt f (now (part .entry)) stride (start + 8 * far) (pairs * k)) ⌝ }
+    requires { ⌜ (Packed (now part) stride k (start + 8 * far) (pairs * k)) × (57 ≤ start + k * stride) × (2 * pairs ≤ length (now room)) ⌝ }
+    ensures { λ r. ⌜ Halves (now (part .entry)) stride k start (start + 8 * far) pairs (now (room .exit)) ⌝ }
 {
     let step = k * stride;
     let mut at = start + step - 57;
@@ -81,7 +81,7 @@ fn fill(
 
 // The word of the r postings from bit `at` on, with an impact of 1 and no gap for each of the k that is not there.
 fn rest_word(part: &[u8], at: usize, stride: usize, k: usize, r: usize, ones: u64) -> u64
-    requires { ⌜ (0 < stride) × (r ≤ k) × (k * stride ≤ 57) × (at + r * stride ≤ 8 * length (now part)) × (length (now part) < 16777216) × (ones ≡ onesOf stride k) ⌝ }
+    requires { ⌜ (Packed (now part) stride k at r) × (r ≤ k) × (ones ≡ onesOf stride k) ⌝ }
     ensures { λ x. ⌜ ((f : ℕ → ℕ) → sumLanes f stride x k ≡ sumAt f (now (part .entry)) stride at r + (k - r) * f 1) ⌝ }
 {
     let cut = r * stride;
@@ -95,7 +95,7 @@ fn smaller(a: usize, b: usize) -> usize
     if a < b { a } else { b }
 }
 
-// The n postings from bit `start` on as words of k each, the last one of fewer, from word `done` of the row on; what is given is the number of words then.
+// The n postings from bit `start` on as words of k each, the last of fewer, after the first `done` words; what is given is the number of words then.
 fn fill_rest(
     part: &[u8],
     start: usize,
@@ -106,8 +106,8 @@ fn fill_rest(
     done: usize,
     room: &mut [u64],
 ) -> usize
-    requires { ⌜ (length (now part) < 16777216) × (0 < stride) × (0 < k) × (k * stride ≤ 57) × (done + n ≤ length (now room)) × (start + n * stride ≤ 8 * length (now part)) × (ones ≡ onesOf stride k) ⌝ }
-    ensures { λ r. ⌜ (r ≤ done + n) × (r * k ≤ done * k + n + k) × Added (now (part .entry)) stride k start n (now (room .entry)) done (now (room .exit)) r ⌝ }
+    requires { ⌜ (Packed (now part) stride k start n) × (done + n ≤ length (now room)) × (ones ≡ onesOf stride k) ⌝ }
+    ensures { λ r. ⌜ Added (now (part .entry)) stride k start n (now (room .entry)) done (now (room .exit)) r ⌝ }
 {
     let mut at = start;
     let mut left = n;
@@ -122,8 +122,8 @@ fn fill_rest(
     i
 }
 
-// The n postings from bit `start` on as words of k each; what is given is the number of words. Eight postings take whole bytes, so that two halves of 8m postings are
-// read side by side, then what is left of both, and what comes after them.
+// The n postings from bit `start` on as words of k each; what is given is the number of words. Eight postings take whole bytes, so that two halves
+// of 8m postings are read side by side; then what is left of both, and what comes after them.
 pub fn read_words(
     part: &[u8],
     start: usize,
@@ -133,7 +133,7 @@ pub fn read_words(
     ones: u64,
     room: &mut [u64],
 ) -> usize
-    requires { ⌜ (length (now part) < 16777216) × (0 < stride) × (0 < k) × (k ≤ 6) × (k * stride ≤ 57) × (57 ≤ start + k * stride) × (n ≤ 128) × (length (now room) ≡ 128) × (start + n * stride ≤ 8 * length (now part)) × (ones ≡ onesOf stride k) ⌝ }
+    requires { ⌜ (Packed (now part) stride k start n) × (57 ≤ start + k * stride) × (n ≤ 128) × (length (now room) ≡ 128) × (ones ≡ onesOf stride k) ⌝ }
     ensures { λ r. ⌜ Filled (now (part .entry)) stride k start n (now (room .exit)) r ⌝ }
 {
     let m = n / 16;
@@ -174,16 +174,16 @@ fn total(gaps: u64, stride: usize, k: usize) -> u64
     sum
 }
 
-// What weighing a block's words says: the sum of the gaps; `bad` is 0 only where each impact is 1 to the largest, and `hit` above 0 only where one is the largest.
+// What weighing words says: the sum of the gaps; `bad` is 0 only where each impact is 1 to the largest, and `hit` above 0 only where one is the largest.
 pub struct Weight {
     pub gaps: u64,
     pub bad: u64,
     pub hit: u64,
 }
 
-// The first `count` words of a row, of k postings each; `largest` is the impact that the block's head has. A gap's lowest bit is left to tell of the impact below it.
+// The first `count` words of a row, of k postings each; `largest` is the block's as its head has it. A gap's lowest bit is left to tell of the impact below.
 fn weigh_lanes(row: &[u64], count: usize, w: usize, k: usize, ones: u64, largest: u64) -> Weight
-    requires { ⌜ (count ≤ 128) × (count ≤ length (now row)) × (0 < w) × (w ≤ 24) × (Packs w k) × (ones ≡ onesOf (w + 8) k) × (largest ≤ 255) ⌝ }
+    requires { ⌜ (0 < w) × (Packs w k) × (ones ≡ onesOf (w + 8) k) × (largest ≤ 255) × (count ≤ 128) × (count ≤ length (now row)) ⌝ }
     ensures { λ r. ⌜ Weighs w k largest (now (row .entry)) count (r .gaps) (r .bad) (r .hit) ⌝ }
 {
     let gap = ((1 << w) - 1) * 256 * ones;
@@ -224,7 +224,7 @@ fn lower(room: &mut [u64], count: usize)
 
 // The words of a block's postings. Impacts with no gaps between them are taken two to a lane, and all words twice.
 pub fn weigh(room: &mut [u64], count: usize, w: usize, k: usize, ones: u64, largest: u64) -> Weight
-    requires { ⌜ (count ≤ 128) × (length (now room) ≡ 128) × (w ≤ 24) × (Packs w k) × (ones ≡ onesOf (w + 8) k) × (largest ≤ 255) × (count * k ≤ 128 + 3 * k) ⌝ }
+    requires { ⌜ (Packs w k) × (ones ≡ onesOf (w + 8) k) × (largest ≤ 255) × (count ≤ 128) × (count * k ≤ 128 + 3 * k) × (length (now room) ≡ 128) ⌝ }
     ensures { λ r. ⌜ Weighs w k largest (now (room .entry)) count (r .gaps) (r .bad) (r .hit) ⌝ }
 {
     if w == 0 {

@@ -1,6 +1,4 @@
 -- The words that were read and weighed are those of the postings.
-use Prim.Native.Nat.{ℕ, _+_, _*_, _≤_}
-use mathlib.Core.Path.{_≡_}
 use native.Mathlib.Omega.{arith}
 use borrow.Author.Needs.{needs}
 use Rattle.image.specs.FairLaws.{words-fair}
@@ -63,7 +61,8 @@ returns-5 c t =
     let s = k .before .before .before .before in
     let a = s .args in
     words-fair (a .part .now) (a .docs) t (a .w) (a .largest) (a .start) (a .first) (a .n) (k .per-word .result) _ (r .read-words .result)
-    (w .weigh .result .gaps) (w .weigh .result .bad) (w .weigh .result .hit) (omega arith) (r .read-words .ensures) (w .weigh .ensures) (c .before .before .before .if2 .left) (c .before .if3 .left) (omega arith)
+    (w .weigh .result .gaps) (w .weigh .result .bad) (w .weigh .result .hit) (omega arith) (r .read-words .ensures) (w .weigh .ensures)
+    (c .before .before .before .if2 .left) (c .before .if3 .left) (omega arith)
 
 pub judge-words-spec : {M : Type 1} → statement M
 judge-words-spec =

@@ -26,7 +26,8 @@ there : (c : tie.In-loop Inv-loop μ-loop) →
     c .before .loop .at + 57 + 8 * a .far ≤ 8 * length (a .part .now)
 there c =
     let a = c .before .before .before .before .args in
-    omega (arith, mul-le-mul-right (a .k * a .stride) (c .loop-test .taken))
+    let p = c .before .before .before .before .pre .0 in
+    omega (arith, mul-le-mul-right (a .k * a .stride) (c .loop-test .taken), p .inside)
 
 -- the lanes of a word of the half that begins at bit b
 lanes :
@@ -37,7 +38,8 @@ lanes :
 lanes c f b at bit x e q h =
     let a = c .before .before .before .before .args in
     let first : bit + (57 - a .k * a .stride) ≡ b + c .before .loop .i * (a .k * a .stride) = omega arith in
-    word-sum f (a .part .now) (a .stride) (a .k) bit x (omega arith) h ∙ ap (λ (i : ℕ). sumAt f (a .part .now) (a .stride) i (a .k)) first
+    word-sum f (a .part .now) (a .stride) (a .k) bit x (c .before .before .before .before .pre .0 .word) h
+    ∙ ap (λ (i : ℕ). sumAt f (a .part .now) (a .stride) i (a .k)) first
 
 mul-step : tie.Need-mul-step Inv-loop μ-loop
 mul-step c = search needs
@@ -104,7 +106,8 @@ loop-again c =
       omega arith,
       omega arith,
       search needs,
-      λ f. words-pair f (a .part .now) (a .stride) (a .k) (a .start) (a .start + 8 * a .far) (l .loop .room) i (c .before .word-at .result) (c .word-at2 .result) (omega arith)
+      λ f. words-pair f (a .part .now) (a .stride) (a .k) (a .start) (a .start + 8 * a .far) (l .loop .room) i
+          (c .before .word-at .result) (c .word-at2 .result) (omega arith)
           (lanes d f (a .start) at (8 * (at / 8) + at % 8) (c .before .word-at .result) (omega arith) (omega arith) (c .before .word-at .ensures))
           (lanes d f (a .start + 8 * a .far) (at + 8 * a .far) (8 * (at / 8 + a .far) + at % 8) (c .word-at2 .result) (omega arith) (omega arith) (c .word-at2 .ensures))
           (l .loop .inv .3 f),

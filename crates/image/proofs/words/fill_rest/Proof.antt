@@ -1,12 +1,11 @@
 -- A word more each turn, the last with fewer postings.
 use Prim.Native.Nat.{ℕ, _+_, _-_, _*_, _≤_, _<_}
 use mathlib.Core.Path.{_≡_, refl, ap, _∙_}
-use native.Mathlib.Nat.{mul-le-mul-right}
 use native.Mathlib.Omega.{arith}
 use lib.ListN.{length}
 use borrow.Author.Needs.{needs}
-use Rattle.image.specs.Lanes.{sumLanes, sumAt}
-use Rattle.image.specs.Gathering.{Added, added-none, added-more}
+use Rattle.image.specs.Lanes.{sumAt, packed-too}
+use Rattle.image.specs.Gathering.{Coming, coming-none, coming-more}
 use Rattle.image.proofs.words.fill_rest.Statement.{statement}
 use Rattle.image.proofs.words.fill_rest.Tie as tie
 
@@ -16,7 +15,7 @@ Inv-loop part start stride k n ones done room₀ at₀ left₀ i₀ room at left
     × (i + left ≤ done + n)
     × (length room ≡ length room₀)
     × (at + left * stride ≡ start + n * stride)
-    × Added part stride k start (n - left) room₀ done room i
+    × Coming part stride k start room₀ done (n - left) room i
     × (0 < left → i * k ≡ done * k + (n - left))
     × (i * k ≤ done * k + n + k)
 
@@ -39,7 +38,8 @@ takes c =
 loop-holds : tie.Need-loop-holds Inv-loop μ-loop
 loop-holds c =
     let a = c .before .before .args in
-    (omega arith, omega arith, refl, refl, added-none (a .part .now) (a .stride) (a .k) (a .start) (a .room .now) (a .done) (a .n - a .n) (omega arith), (λ some. omega arith), omega arith)
+    let none = coming-none (a .part .now) (a .stride) (a .k) (a .start) (a .room .now) (a .done) (a .n - a .n) (omega arith) in
+    (omega arith, omega arith, refl, refl, none, (λ some. omega arith), omega arith)
 
 smaller-requires : tie.Need-smaller-requires Inv-loop μ-loop
 smaller-requires c κs = search needs
@@ -48,7 +48,7 @@ rest-word-requires : tie.Need-rest-word-requires Inv-loop μ-loop
 rest-word-requires c κs =
     let s = c .before .before .before .before .before in
     let t = takes c in
-    (s .pre .1, t .1, s .pre .3, omega (arith, t), s .pre .0, s .pre .6)
+    (packed-too (c .before .before .loop .at) (c .smaller .result) (s .pre .0) (omega (arith, t, s .pre .0 .inside)), t .1, s .pre .2)
 
 mul-room : tie.Need-mul-room Inv-loop μ-loop
 mul-room c = search needs
@@ -86,7 +86,8 @@ loop-again c =
       omega (arith, t),
       search needs,
       omega (arith, t),
-      added-more (a .part .now) (a .stride) (a .k) (a .start) (a .room .now) (a .done) gone (a .n - (l .loop .left - r)) r (l .loop .room) (l .loop .i) (c .rest-word .result)
+      coming-more (a .part .now) (a .stride) (a .k) (a .start) (a .room .now) (a .done) gone (a .n - (l .loop .left - r)) r
+          (l .loop .room) (l .loop .i) (c .rest-word .result)
           (omega (arith, t)) (omega (arith, t))
           (λ f. c .rest-word .ensures f ∙ ap (λ (i : ℕ). sumAt f (a .part .now) (a .stride) i r + (a .k - r) * f 1) at) (l .loop .inv .4),
       (λ some. omega (arith, full, m .smaller .ensures)),
@@ -101,7 +102,7 @@ returns c =
     let l = c .before in
     let a = l .before .before .before .args in
     let e : a .n - l .loop .left ≡ a .n = omega arith in
-    (omega arith, l .loop .inv .6, rw e at (l .loop .inv .4))
+    record { few = omega arith; tight = l .loop .inv .6; came = rw e at (l .loop .inv .4) }
 
 pub fill-rest-spec : {M : Type 1} → statement M
 fill-rest-spec =

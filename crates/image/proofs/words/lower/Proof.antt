@@ -1,12 +1,11 @@
 -- One word more in its second reading each turn; the words themselves stay.
 use Prim.Native.Nat.{ℕ, _+_, _-_, _*_, _/_, _≤_, _<_}
-use mathlib.Core.Path.{_≡_, refl, sym, ap, _∙_}
-use native.Mathlib.Nat.{add-assoc}
+use mathlib.Core.Path.{_≡_, refl, ap, _∙_}
 use native.Mathlib.Omega.{arith}
 use lib.ListN.{length, getD, length-set}
 use lib.Seq.{getD-set-other}
 use borrow.Author.Needs.{needs}
-use Rattle.image.specs.Lanes.{Bytewise, sumLanes, sumWords, words-zero, words-more, words-bytes}
+use Rattle.image.specs.Lanes.{Bytewise, sumWords, words-zero, words-more, words-bytes}
 use Rattle.image.proofs.words.lower.Statement.{statement}
 use Rattle.image.proofs.words.lower.Tie as tie
 

@@ -1,12 +1,12 @@
 -- The two halves side by side, what is left of each, and what comes after them.
-use Prim.Native.Nat.{ℕ, _+_, _-_, _*_, _/_, _≤_}
-use mathlib.Core.Path.{_≡_, sym, ap, _∙_}
+use Prim.Native.Nat.{ℕ, _+_, _-_, _*_, _/_}
+use mathlib.Core.Path.{_≡_, ap, _∙_}
 use mathlib.Core.List.{List}
 use native.Mathlib.Omega.{arith}
 use lib.ListN.{length}
 use borrow.Author.Needs.{needs}
-use Rattle.image.specs.Lanes.{sumAt, Shared, shared}
-use Rattle.image.specs.Gathering.{Added, filled}
+use Rattle.image.specs.Lanes.{Shared, shared, packed-too}
+use Rattle.image.specs.Gathering.{filled}
 use Rattle.image.proofs.words.read_words.Statement.{statement}
 use Rattle.image.proofs.words.read_words.Tie as tie
 
@@ -21,7 +21,7 @@ abbrev left : tie.Start → ℕ
 left s = half s - pairs s * s .args .k
 
 split : (s : tie.Start) → Shared (half s) (s .args .k) (pairs s)
-split s = shared (half s) (s .args .k) (s .pre .2)
+split s = shared (half s) (s .args .k) (s .pre .0 .some)
 
 -- the bits that they take
 record Bits (s : tie.Start) : Type 0 where
@@ -59,7 +59,7 @@ abbrev row4 : tie.After-slice-known4 → List ℕ
 row4 c = c .before .before .fill-rest2 .last .1 .1 .1 .1 .1 .1 .1 .0
 
 long2 : (c : tie.After-slice-known2) → length (row2 c) ≡ 128
-long2 c = c .before .before .fill .kept .1 .1 .1 .1 .1 .1 .0 ∙ halves c .pre .7
+long2 c = c .before .before .fill .kept .1 .1 .1 .1 .1 .1 .0 ∙ halves c .pre .3
 
 long3 : (c : tie.After-slice-known3) → length (row3 c) ≡ 128
 long3 c = c .before .before .fill-rest .kept .1 .1 .1 .1 .1 .1 .1 .0 ∙ long2 (c .before .before .before .before)
@@ -79,7 +79,9 @@ div-pairs c = search needs
 fill-requires : tie.Need-fill-requires
 fill-requires c κs =
     let s = c .before .before .before in
-    omega (arith, split s, bits s)
+    let a = s .args in
+    let far = a .n / 16 * a .stride in
+    (packed-too (a .start + 8 * far) (pairs s * a .k) (s .pre .0) (omega (arith, bits s, s .pre .0 .inside)), s .pre .1, omega (arith, split s))
 
 mul-rest : tie.Need-mul-rest
 mul-rest c = omega (arith, split (halves c))
@@ -103,7 +105,8 @@ fill-rest-requires : tie.Need-fill-rest-requires
 fill-rest-requires c κs =
     let k = c .before in
     let s = halves k in
-    (s .pre .0, s .pre .1, s .pre .2, s .pre .4, omega (arith, split s, long2 k), omega (arith, bits s), s .pre .9)
+    let a = s .args in
+    (packed-too (a .start + pairs s * a .k * a .stride) (left s) (s .pre .0) (omega (arith, bits s, s .pre .0 .inside)), omega (arith, split s, long2 k), s .pre .4)
 
 mul-fill-rest-2 : tie.Need-mul-fill-rest-2
 mul-fill-rest-2 c = omega (arith, bits (near c))
@@ -115,8 +118,10 @@ fill-rest-requires-2 : tie.Need-fill-rest-requires-2
 fill-rest-requires-2 c κs =
     let k = c .before in
     let s = near k in
-    let few = k .before .before .fill-rest .ensures .0 in
-    (s .pre .0, s .pre .1, s .pre .2, s .pre .4, omega (arith, split s, long3 k), omega (arith, bits s), s .pre .9)
+    let few = k .before .before .fill-rest .ensures .few in
+    let a = s .args in
+    let at = a .start + pairs s * a .k * a .stride + 8 * (a .n / 16 * a .stride) in
+    (packed-too at (left s) (s .pre .0) (omega (arith, bits s, s .pre .0 .inside)), omega (arith, split s, long3 k), s .pre .4)
 
 mul-fill-rest-3 : tie.Need-mul-fill-rest-3
 mul-fill-rest-3 c = omega (arith, bits (both c))
@@ -134,9 +139,11 @@ fill-rest-requires-3 : tie.Need-fill-rest-requires-3
 fill-rest-requires-3 c κs =
     let k = c .before in
     let s = both k in
-    let few = k .before .before .fill-rest2 .ensures .0 in
-    let less = k .before .before .before .before .before .before .fill-rest .ensures .0 in
-    (s .pre .0, s .pre .1, s .pre .2, s .pre .4, omega (arith, split s, long4 k), omega (arith, bits s), s .pre .9)
+    let few = k .before .before .fill-rest2 .ensures .few in
+    let less = k .before .before .before .before .before .before .fill-rest .ensures .few in
+    let a = s .args in
+    let at = a .start + 16 * (a .n / 16 * a .stride) in
+    (packed-too at (a .n - 2 * half s) (s .pre .0) (omega (arith, bits s, s .pre .0 .inside)), omega (arith, split s, long4 k), s .pre .4)
 
 same-length : tie.Need-same-length
 same-length c = search needs
@@ -156,9 +163,10 @@ returns c =
     let x = n .before .before .fill-rest .ensures in
     let y = b .before .before .fill-rest2 .ensures in
     let z = c .before .before .fill-rest3 .ensures in
-    filled (a .part .now) (a .stride) (a .k) (a .start) (half s) p (left s) (a .n - 2 * half s) (a .n) (row2 h) (row3 n) (row4 b) _ (n .before .before .fill-rest .result)
-    (b .before .before .fill-rest2 .result) (c .before .before .fill-rest3 .result) (omega (arith, split s)) (omega arith) (omega (arith, split s)) (omega (arith, split s))
-    (λ f. rw there at (h .before .before .fill .ensures f)) (x .2) (rw beyond at (y .2)) (rw after at (z .2))
+    filled (a .part .now) (a .stride) (a .k) (a .start) (half s) p (left s) (a .n - 2 * half s) (a .n) (row2 h) (row3 n) (row4 b) _
+    (n .before .before .fill-rest .result) (b .before .before .fill-rest2 .result) (c .before .before .fill-rest3 .result)
+    (omega (arith, split s)) (omega arith) (split s .few) (s .pre .2)
+    (λ f. rw there at (h .before .before .fill .ensures f)) x (rw beyond at y) (rw after at z)
 
 pub read-words-spec : {M : Type 1} → statement M
 read-words-spec =

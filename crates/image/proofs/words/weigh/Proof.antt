@@ -1,20 +1,21 @@
 -- Lanes as they are, or two bytes to a lane.
-use Prim.Native.Nat.{ℕ, _+_, _*_, _≤_}
+use Prim.Native.Nat.{_+_, _*_, _≤_}
 use mathlib.Core.Path.{_≡_, _∙_}
 use native.Mathlib.Omega.{arith}
 use borrow.Author.Needs.{needs}
+use Rattle.image.specs.Lanes.{Packs}
 use Rattle.image.specs.Gathering.{weighs-gapless}
 use Rattle.image.proofs.words.weigh.Statement.{statement}
 use Rattle.image.proofs.words.weigh.Tie as tie
 
 -- with no gaps there are six postings to a word, and few words
 six : (c : tie.Then1) → c .before .before .args .k ≡ 6
-six c = c .before .before .pre .3 .gapless (c .if1 .taken)
+six c = c .before .before .pre .0 .gapless (c .if1 .taken)
 
 few : (c : tie.Then1) → c .before .before .args .count ≤ 64
 few c =
     let s = c .before .before in
-    let l : s .args .count * 6 ≤ 128 + 3 * 6 = rw (six c) at (s .pre .6) in
+    let l : s .args .count * 6 ≤ 128 + 3 * 6 = rw (six c) at (s .pre .4) in
     omega arith
 
 lower-requires : tie.Need-lower-requires
@@ -32,8 +33,17 @@ weigh-lanes-requires c κs =
     let i = l .before .before in
     let s = i .before .before in
     let small = few i in
-    let long = l .lower .kept .0 ∙ s .pre .1 in
-    (omega arith, omega arith, omega arith, omega arith, record { some = omega arith; few = omega arith; gapless = λ e. absurd (omega arith); least = omega arith; most = omega arith }, c .ones-of .ensures, s .pre .5)
+    let long = l .lower .kept .0 ∙ s .pre .5 in
+    let bytes : Packs 8 3 = record {
+      width = omega arith;
+      some = omega arith;
+      few = omega arith;
+      gapless = λ e. absurd (omega arith);
+      least = omega arith;
+      most = omega arith;
+    }
+    in
+    (omega arith, bytes, c .ones-of .ensures, s .pre .2, omega arith, omega arith)
 
 same-length : tie.Need-same-length
 same-length c = search needs

@@ -1,6 +1,6 @@
 -- What a word adds each turn; the masks leave room for every sum.
 use Prim.Native.Nat.{ℕ, _+_, _-_, _*_, _%_, _^_, _≤_, _<_}
-use mathlib.Core.Path.{_≡_, refl, sym, ap, _∙_}
+use mathlib.Core.Path.{_≡_, ap, _∙_}
 use native.Mathlib.Omega.{arith}
 use lib.Bits.{bitAnd, and-le-r, or-lt}
 use lib.ListN.{getD}
@@ -21,7 +21,7 @@ abbrev Start : Type 0
 Start = tie.Start Inv-loop μ-loop
 
 small : (s : Start) → Masks (s .args .w) (s .args .largest) (s .args .ones)
-small s = masks (s .args .w) (s .args .k) (s .args .largest) (s .args .ones) (s .pre .5) (s .pre .3) (s .pre .4 .most)
+small s = masks (s .args .w) (s .args .k) (s .args .largest) (s .args .ones) (s .pre .2) (s .pre .1 .width) (s .pre .1 .most)
 
 -- the word at hand, and its impacts
 abbrev word : tie.After-shared-slice-known2 Inv-loop μ-loop → ℕ
@@ -98,13 +98,14 @@ loop-again c =
     let a = s .args in
     let b = small s in
     let g = (1 * 2 ^ a .w % 2 ^ 64 - 1) * 256 * a .ones in
-    let eg : g ≡ (2 ^ a .w - 1) * 256 * onesOf (a .w + 8) (a .k) = ap (λ (x : ℕ). (x - 1) * 256 * a .ones) (b .shift) ∙ ap (λ (x : ℕ). (2 ^ a .w - 1) * 256 * x) (s .pre .5) in (
+    let eg : g ≡ (2 ^ a .w - 1) * 256 * onesOf (a .w + 8) (a .k) =
+    ap (λ (x : ℕ). (x - 1) * 256 * a .ones) (b .shift) ∙ ap (λ (x : ℕ). (2 ^ a .w - 1) * 256 * x) (s .pre .2) in (
       omega arith,
       omega (arith, b, and-le-r (word c) g),
       or-lt 64 _ _ (or-lt 64 _ _ (l .loop .inv .2) (omega (arith, b, most c))) (omega (arith, b)),
       or-lt 64 _ _ (l .loop .inv .3) (omega (arith, b, most c)),
-      weighed-more (a .w) (a .k) (a .largest) (a .row .now) (a .ones) g (l .loop .i) (l .loop .gaps) (l .loop .bad) (l .loop .hit) (s .pre .5) eg (s .pre .2) (s .pre .6)
-          (omega arith) (l .loop .inv .2) (l .loop .inv .3) (omega (arith, b)) (l .loop .inv .4),
+      weighed-more (a .w) (a .k) (a .largest) (a .row .now) (a .ones) g (l .loop .i) (l .loop .gaps) (l .loop .bad) (l .loop .hit)
+          (s .pre .2) eg (s .pre .0) (s .pre .3) (omega arith) (l .loop .inv .2) (l .loop .inv .3) (omega (arith, b)) (l .loop .inv .4),
     )
 
 add-total : tie.Need-add-total Inv-loop μ-loop
@@ -113,7 +114,7 @@ add-total c = search needs
 total-requires : tie.Need-total-requires Inv-loop μ-loop
 total-requires c κs =
     let s = c .before .before .before in
-    (omega arith, s .pre .4 .few)
+    (omega (arith, s .pre .1 .width), s .pre .1 .few)
 
 returns : tie.Need-returns Inv-loop μ-loop
 returns c =
@@ -122,7 +123,7 @@ returns c =
     let a = s .args in
     let e : l .loop .i ≡ a .count = omega arith in
     let x : Weighed (a .w) (a .k) (a .largest) (a .row .now) (a .count) (l .loop .gaps) (l .loop .bad) (l .loop .hit) = rw e at (l .loop .inv .4) in
-    rw (s .pre .5)
+    rw (s .pre .2)
     (record {
       sum = c .total .ensures .0 ∙ weighed-gaps (a .w) (a .k) (a .largest) (a .row .now) (a .count) (l .loop .gaps) (l .loop .bad) (l .loop .hit) x;
       small = c .total .ensures .1;
