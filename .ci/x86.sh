@@ -13,7 +13,7 @@ if [ "$(uname -m)" != x86_64 ]; then
   fi
   X86_CC=x86_64-linux-gnu-gcc
   X86_RUN=qemu-x86_64
-  export RUSTC=/usr/bin/rustc
+  export RUSTC=/usr/bin/rustc RUSTDOC=/usr/bin/rustdoc
   export CARGO_BUILD_TARGET=x86_64-unknown-linux-gnu
   export CARGO_TARGET_X86_64_UNKNOWN_LINUX_GNU_LINKER=$X86_CC
   export CARGO_TARGET_X86_64_UNKNOWN_LINUX_GNU_RUNNER=$X86_RUN
