@@ -61,7 +61,7 @@ fn the_largest_numbers_of_documents() {
 
 /// Ten million cases on all cores; the first mismatch ends it.
 #[test]
-#[ignore = "the soak: most of an hour"]
+#[ignore = "the soak: ten million cases"]
 fn soak() {
     let first = first_seed(1_000_000_000);
     let (begun, started) = (AtomicU64::new(0), Instant::now());
