@@ -139,6 +139,14 @@ pub fn open_list(image: &[u8], term: u32) -> Opened
     }
 }
 
+// The next posting, in a block that has one.
+pub fn take_next(image: &[u8], c: Cursor) -> Cursor
+    requires { ⌜ Sound (now image) (indexOf (now image) .docs) c × (0 < c .rest) ⌝ }
+    ensures { λ r. ⌜ r ≡ takenAt (now (image .entry)) c ⌝ }
+{
+    take_posting(image, c)
+}
+
 // The next posting of a block that has one, before it is taken: its document plus one, times 4096, plus its impact.
 pub fn peek(image: &[u8], c: Cursor) -> u64
     requires { ⌜ Sound (now image) (indexOf (now image) .docs) c × (0 < c .rest) ⌝ }

@@ -5,3 +5,4 @@ pub mod Front
 pub mod Sorted
 pub mod SortedLaws
 pub mod Settling
+pub mod Places

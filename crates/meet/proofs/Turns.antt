@@ -19,13 +19,13 @@ use Rattle.runs.specs.RunLaws.{run-stop, run-enter, run-on, run-skips, run-end}
 use Rattle.runs.specs.AllVisits.{meetAt}
 use Rattle.mentions.specs.declared.Mention.{Mention}
 use Rattle.mentions.specs.Mentions.{none, meant}
-use Rattle.walk.specs.Stand.{docOf, Stands, Lags, Goes, Placed}
-use Rattle.walk.specs.NextLaws.{doc-none, doc-some}
-use Rattle.walk.specs.StandLaws.{stands-later, stands-after, stands-hit, stands-miss, stands-fits, goes-same}
-use Rattle.walk.specs.PlacedLaws.{placed-meant, placed-looked}
-use Rattle.walk.specs.StartLaws.{meant-at}
-use Rattle.walk.specs.Walk.{meantOf, runOf}
-use Rattle.walk.specs.declared.Visit.{Visit}
+use Rattle.visit.specs.Stand.{docOf, Stands, Lags, Goes, Placed}
+use Rattle.visit.specs.NextLaws.{doc-none, doc-some}
+use Rattle.visit.specs.StandLaws.{stands-later, stands-after, stands-hit, stands-miss, stands-fits, goes-same}
+use Rattle.visit.specs.PlacedLaws.{placed-meant, placed-looked}
+use Rattle.visit.specs.StartLaws.{meant-at}
+use Rattle.visit.specs.Walk.{meantOf, runOf}
+use Rattle.visit.specs.declared.Visit.{Visit}
 use Rattle.meet.specs.Meet.{Meets, meetBy, Leaves}
 use Rattle.meet.specs.MeetLaws.{meet-all, meet-none, lacks}
 

@@ -20,8 +20,8 @@ use Rattle.cursor.specs.CursorLaws.{at-end, left-is, ahead-is}
 use Rattle.runs.specs.AllVisits.{meetAt}
 use Rattle.mentions.specs.declared.Mention.{Mention}
 use Rattle.mentions.specs.Mentions.{none, meant}
-use Rattle.walk.specs.Stand.{Stands}
-use Rattle.walk.specs.Walk.{meantOf}
+use Rattle.visit.specs.Stand.{Stands}
+use Rattle.visit.specs.Walk.{meantOf}
 use Rattle.lists.specs.Sorted.{sortedBy}
 use Rattle.lists.specs.SortedLaws.{sorted-sum, sorted-length, sorted-each, Rises, sorted-rises}
 use Rattle.meet.specs.Meet.{postingsLeft, led}

@@ -11,9 +11,9 @@ use Rattle.runs.specs.Run.{Run, runFrom}
 use Rattle.runs.specs.AllVisits.{meetAt}
 use Rattle.mentions.specs.declared.Mention.{Mention}
 use Rattle.mentions.specs.Mentions.{none}
-use Rattle.walk.specs.Stand.{Lags}
-use Rattle.walk.specs.Walk.{meantOf}
-use Rattle.walk.specs.declared.Visit.{Visit}
+use Rattle.visit.specs.Stand.{Lags}
+use Rattle.visit.specs.Walk.{meantOf}
+use Rattle.visit.specs.declared.Visit.{Visit}
 use Rattle.lists.specs.Sorted.{sortedBy}
 
 -- the postings that a mention has left, by which the mentions are put in order: the current one, and those after it in its block and list

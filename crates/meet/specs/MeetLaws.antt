@@ -11,7 +11,7 @@ use Rattle.meaning.specs.ScoreLaws.{holders-le}
 use Rattle.runs.specs.AllVisits.{meetAt}
 use Rattle.mentions.specs.declared.Mention.{Mention}
 use Rattle.mentions.specs.Mentions.{none}
-use Rattle.walk.specs.Stand.{Stands}
+use Rattle.visit.specs.Stand.{Stands}
 use Rattle.meet.specs.Meet.{Meets}
 
 module _ (os : List sc.Mention) (d : ℕ) where

@@ -2,15 +2,15 @@
 // and the others are sought past whole blocks by their heads. The array goes in by value and comes back with the visit.
 use mentions::Mention;
 use runs::Turn;
-use walk::DONE;
-use walk::Visit;
+use visit::DONE;
+use visit::Visit;
 ghost use mathlib.Core.Path.{_≡_};
 ghost use Prim.Native.Nat.{_≤_, _<_};
 ghost use lib.ListN.{getD};
 ghost use Rattle.meaning.specs.Image.{indexOf};
 ghost use Rattle.runs.specs.declared.Turn.the-variants.{Entered};
 ghost use Rattle.mentions.specs.Mentions.{none};
-ghost use Rattle.walk.specs.Walk.{meantOf, runOf};
+ghost use Rattle.visit.specs.Walk.{meantOf, runOf};
 ghost use Rattle.lists.specs.Sorted.{settledIn};
 ghost use Rattle.meet.specs.Meet.{postingsLeft, led, Meets, meetBy, Leaves};
 
@@ -87,7 +87,7 @@ pub fn meet(
         if i < q {
             let mut m = ms[i];
             if m.cursor.past < past {
-                m = walk::sought(image, m, past);
+                m = visit::sought(image, m, past);
                 ms[i] = m;
             }
             if m.cursor.past == past {
@@ -100,17 +100,17 @@ pub fn meet(
             }
         } else {
             if (budget as u64) < (count as u64) + (cost as u64) {
-                return walk::ended(ms, Turn::Stopped, past, 0, count, past);
+                return visit::ended(ms, Turn::Stopped, past, 0, count, past);
             }
             count += cost;
             let next = past + 1;
             if bar < sum {
-                return walk::ended(ms, Turn::Entered, past, sum, count, next);
+                return visit::ended(ms, Turn::Entered, past, sum, count, next);
             }
             past = next;
             sum = 0;
             i = 0;
         }
     }
-    walk::ended(ms, Turn::Finished, past, 0, count, past)
+    visit::ended(ms, Turn::Finished, past, 0, count, past)
 }

@@ -26,10 +26,10 @@ use Rattle.ranking.specs.declared.Table.{Table}
 use Rattle.ranking.specs.Rows.{rowsOf}
 use Rattle.ranking.specs.RowsLaws.{stands-under}
 use Rattle.mentions.specs.declared.Mention.{Mention}
-use Rattle.walk.specs.Stand.{docOf}
-use Rattle.walk.specs.NextLaws.{doc-none, doc-some}
-use Rattle.walk.specs.Walk.{meantOf, runOf}
-use Rattle.walk.specs.declared.Visit.{Visit}
+use Rattle.visit.specs.Stand.{docOf}
+use Rattle.visit.specs.NextLaws.{doc-none, doc-some}
+use Rattle.visit.specs.Walk.{meantOf, runOf}
+use Rattle.visit.specs.declared.Visit.{Visit}
 use Rattle.meet.specs.Meet.{Meets, meetBy, Leaves}
 use Rattle.search.specs.Serve.{FoundBy}
 use Rattle.search.proofs.AnyLoop.{kth-none}

@@ -33,15 +33,15 @@ use Rattle.ranking.specs.RowsLaws.{stands-under}
 use Rattle.mentions.specs.declared.Mention.{Mention}
 use Rattle.mentions.specs.Mentions.{none, meant, Weighed, byCeiling, Sums, Rising, asideOf, leastOf}
 use Rattle.mentions.specs.MeantLaws.{order-front, by-ceiling-meant, by-ceiling-each, by-ceiling-length, sums-meant, sums-rise, aside-meant}
-use Rattle.walk.specs.Stand.{Stands, Fair, Placed, nextAt, docOf}
-use Rattle.walk.specs.StandLaws.{fair-ceiling}
-use Rattle.walk.specs.NextLaws.{doc-none, doc-some, next-doc}
-use Rattle.walk.specs.Walk.{meantOf, Starts, Leaves, runOf, runBy}
-use Rattle.walk.specs.declared.Visit.{Visit}
+use Rattle.visit.specs.Stand.{Stands, Fair, Placed, nextAt, docOf}
+use Rattle.visit.specs.StandLaws.{fair-ceiling}
+use Rattle.visit.specs.NextLaws.{doc-none, doc-some, next-doc}
+use Rattle.visit.specs.Walk.{meantOf, Starts, Leaves, runOf, runBy}
+use Rattle.visit.specs.declared.Visit.{Visit}
 use Rattle.search.specs.Serve.{Served, FoundBy, modeFor}
 use Rattle.search.specs.AnyLaws.{Between, between-starts, between-ends, between-enters, no-earlier, bar-rises, aside-in-up}
-use Rattle.walk.specs.PlacedLaws.{placed-meant, placed-rises}
-use Rattle.walk.specs.StartLaws.{least-next, meant-at, leaves-least}
+use Rattle.visit.specs.PlacedLaws.{placed-meant, placed-rises}
+use Rattle.visit.specs.StartLaws.{least-next, meant-at, leaves-least}
 
 pub kth-none : (k : ℕ) → kth k [] ≡ 0
 unfolding kth

@@ -31,11 +31,11 @@ use Rattle.runs.specs.Reached.{Reached, Ended, run-keeps}
 use Rattle.runs.specs.AnyVisits.{asideIn, aside-in-le, any-visits}
 use Rattle.mentions.specs.declared.Mention.{Mention}
 use Rattle.mentions.specs.Mentions.{none, meant}
-use Rattle.walk.specs.Stand.{docOf, nextAt, Placed, Lags, Stands}
-use Rattle.walk.specs.NextLaws.{next-none, next-under, NextDoc, next-doc}
-use Rattle.walk.specs.StandLaws.{stands-past, stands-later}
-use Rattle.walk.specs.PlacedLaws.{placed-meant, placed-rises}
-use Rattle.walk.specs.Walk.{meantOf, Starts, runBy}
+use Rattle.visit.specs.Stand.{docOf, nextAt, Placed, Lags, Stands}
+use Rattle.visit.specs.NextLaws.{next-none, next-under, NextDoc, next-doc}
+use Rattle.visit.specs.StandLaws.{stands-past, stands-later}
+use Rattle.visit.specs.PlacedLaws.{placed-meant, placed-rises}
+use Rattle.visit.specs.Walk.{meantOf, Starts, runBy}
 
 -- the bar never falls from one document to a later one
 bar-grows : (mode : Mode) (ms : List sc.Mention) (k p d : ℕ) → p ≤ d → bar mode ms k p ≤ bar mode ms k d

@@ -13,7 +13,7 @@ use Rattle.runs.specs.Found.{found-answer}
 use Rattle.sheet.specs.declared.Record.{Record}
 use Rattle.sheet.specs.Record.{recordOf}
 use Rattle.mentions.specs.declared.Mention.{Mention}
-use Rattle.walk.specs.Walk.{meantOf}
+use Rattle.visit.specs.Walk.{meantOf}
 use Rattle.search.specs.declared.Found.{Found}
 use Rattle.search.specs.Gather.{Pairs, Gathered}
 use Rattle.search.specs.GatherLaws.{gathered-meant}

@@ -6,7 +6,7 @@ use lib.ListN.{length, getD}
 use Rattle.meaning.specs.Image.{indexOf}
 use Rattle.mentions.specs.declared.Mention.{Mention}
 use Rattle.mentions.specs.Mentions.{none}
-use Rattle.walk.specs.Stand.{Stands}
+use Rattle.visit.specs.Stand.{Stands}
 
 -- a mention of this term and weight that stands at its list's first posting
 pub record Begins (s : List ℕ) (term weight : ℕ) (m : Mention) : Type 0 where

@@ -19,8 +19,8 @@ use Rattle.cursor.specs.PostingLaws.{below-zero}
 use Rattle.sheet.specs.Record.{pairsFrom}
 use Rattle.mentions.specs.declared.Mention.{Mention}
 use Rattle.mentions.specs.Mentions.{none}
-use Rattle.walk.specs.Stand.{Fair}
-use Rattle.walk.specs.Walk.{meantOf}
+use Rattle.visit.specs.Stand.{Fair}
+use Rattle.visit.specs.Walk.{meantOf}
 use Rattle.search.specs.Gather.{Begins, Gathered}
 
 module _ (s : List ℕ) (ok : Accepted s) (term : ℕ) (below : term < length (indexOf s .terms)) where

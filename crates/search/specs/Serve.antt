@@ -12,7 +12,7 @@ use Rattle.runs.specs.Found as runs
 use Rattle.ranking.specs.Rows.{rowsOf}
 use Rattle.mentions.specs.declared.Mention.{Mention}
 use Rattle.mentions.specs.Mentions.{none}
-use Rattle.walk.specs.Stand.{Stands}
+use Rattle.visit.specs.Stand.{Stands}
 use Rattle.search.specs.declared.Found.{Found}
 
 -- the first q of the array stand at their lists' first postings; "k (1 to 64)", "the number of terms q (1 to 16)", N documents

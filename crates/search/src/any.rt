@@ -3,7 +3,7 @@ use mentions::Mention;
 use runs::Turn;
 ghost use mathlib.Core.Path.{_≡_};
 ghost use Prim.Native.Nat.{ℕ, _≤_, _<_};
-ghost use Rattle.walk.specs.Walk.{meantOf};
+ghost use Rattle.visit.specs.Walk.{meantOf};
 ghost use Rattle.search.specs.Serve.{Served, FoundBy, modeFor};
 
 // A query in mode 1, or in mode 0, in which no mention is ever set aside.

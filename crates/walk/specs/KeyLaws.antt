@@ -7,7 +7,8 @@ use lib.Dec.{eqb}
 use lib.ListN.{length, getD, set, length-set}
 use lib.Seq.{getD-set-same, getD-set-other}
 use borrow.Author.Tests.{eqb-true, eqb-false}
-use Rattle.lists.specs.Tests.{by-test, by-order}
+use Rattle.lists.specs.Places.{at-place}
+use Rattle.lists.specs.Tests.{by-order}
 use Rattle.meaning.specs.Image.{indexOf}
 use Rattle.contest.specs.Contest.{Pairs, Kept, Lowest, Entered}
 use Rattle.cursor.specs.declared.Cursor.{Cursor}
@@ -16,66 +17,57 @@ use Rattle.cursor.specs.Steps.{takenAt}
 use Rattle.cursor.specs.StepLaws.{taking}
 use Rattle.mentions.specs.declared.Mention.{Mention}
 use Rattle.mentions.specs.Mentions.{none}
-use Rattle.walk.specs.Keys.{keyOf, SoundFrom, blanks, Blank, KeyedTo, Keyed}
+use Rattle.visit.specs.Stand.{Next, SoundFrom}
+use Rattle.visit.specs.Key.{keyOf, key-past, sound-most}
+use Rattle.walk.specs.Keys.{blanks, Blank, KeyedTo, Keyed}
 
--- the parts of a key
-pub key-past : (c : Cursor) (p : ℕ) → p < 16 → keyOf c p / 4096 ≡ c .past
-key-past c p h = omega arith
-
+-- the place of a key
 key-place : (c : Cursor) (p : ℕ) → p < 16 → keyOf c p / 256 % 16 ≡ p
 key-place c p h = omega arith
 
-pub key-impact : (c : Cursor) (p : ℕ) → keyOf c p % 256 ≡ c .impact % 256
-key-impact c p = omega arith
-
--- the next posting of a block, as judging lets it through
-pub taken-current : {s : List ℕ} {N : ℕ} {c : Cursor} → Sound s N c → 0 < c .rest → (takenAt s c .past < 16777216) × (takenAt s c .impact ≤ 255)
-taken-current {s} {N} {c} r some =
-    let t = taking s N c (r .ready) some in
-    let low : takenAt s c .past < 16777216 = omega (arith, t .below, r .ready .few) in
-    (low, t .sound .current (λ e. omega (arith, low)) .byte)
-
--- no list goes further than its end
-pub sound-most : {s : List ℕ} {N : ℕ} {c : Cursor} → Sound s N c → c .past ≤ 4294967295
-sound-most {c = c} r =
-    by-test (eqb (c .past) 4294967295) (λ b. omega (arith, eqb-true (c .past) 4294967295 b))
-    (λ b. omega (arith, r .current (eqb-false (c .past) 4294967295 b) .below, r .ready .few))
-
--- place x of a row after place p is changed
-at-place : {A : Type 0} (Q : A → Type 0) (row : List A) (p : ℕ) (v z : A) (x : ℕ) → p < length row → (x ≡ p → Q v) → ((x ≡ p → ⊥) → Q (getD row x z)) → Q (getD (set row p v) x z)
-at-place Q row p v z x lt f g =
-    by-test (eqb x p)
-    (λ b. let e = eqb-true x p b in subst Q (sym (ap (λ (y : ℕ). getD (set row p v) y z) e ∙ getD-set-same row p v z lt)) (f e))
-    (λ b. let ne = eqb-false x p b in subst Q (sym (getD-set-other row p x v z ne)) (g ne))
-
-module _ {s : List ℕ} {ms : List Mention} {j n : ℕ} {a b c d next : List ℕ} {top : ℕ} (k : Keyed s ms j n a b c d next top) (sound : SoundFrom s ms j n) where
-  few : n ≤ 16
+-- the lowest key is that of the next posting
+module _ {s : List ℕ} {ms : List Mention} {j q : ℕ} {a b c d next : List ℕ} {top : ℕ} (k : Keyed s ms j (q - j) a b c d next top) (sound : SoundFrom s ms j (q - j)) (some : j < q) where
+  few : q - j ≤ 16
   few = k .kept .few
 
-  -- what the lowest key tells: the mention at its place stands at its document, and no other stands before that or before that mention
-  pub record Top : Type 0 where
-    pub within : top / 256 % 16 < n
-    pub past : getD ms (j + top / 256 % 16) none .cursor .past ≡ top / 4096
-    pub key : getD a (top / 256 % 16) 0 ≡ top
-    pub least : (x : ℕ) → x < n → top / 4096 ≤ getD ms (j + x) none .cursor .past
-    pub first : (x : ℕ) → x < n → getD ms (j + x) none .cursor .past ≡ top / 4096 → top / 256 % 16 ≤ x
+  record Place : Type 0 where
+    place : ℕ
+    within : place < q - j
+    is : keyOf (getD ms (j + place) none .cursor) place ≡ top
 
-  pub top-is : 0 < n → Top
-  top-is some =
+  the-place : Place
+  the-place =
       let y = k .lowest .place in
-      let first = k .lowest .low 0 some in
-      let small = k .keys 0 some in
-      let most = sound-most (sound 0 some) in
+      let first = k .lowest .low 0 (omega arith) in
+      let small = k .keys 0 (omega arith) in
+      let most = sound-most (sound 0 (omega arith)) in
       let in-row : y < 16 = omega (arith, k .lowest .within, k .kept .long .0) in
-      let lt : y < n = by-order y n (λ l. l) (λ g. absurd (omega (arith, k .over y g in-row, k .lowest .is))) in
-      let is : keyOf (getD ms (j + y) none .cursor) y ≡ top = sym (k .keys y lt) ∙ k .lowest .is in
-      let at : top / 256 % 16 ≡ y = rw (← is) (key-place (getD ms (j + y) none .cursor) y (omega (arith, few))) in
+      let lt : y < q - j = by-order y (q - j) (λ l. l) (λ g. absurd (omega (arith, k .over y g in-row, k .lowest .is))) in
+      record { place = y; within = lt; is = sym (k .keys y lt) ∙ k .lowest .is }
+
+  place-is : top / 256 % 16 ≡ the-place .place
+  place-is =
+      let y = the-place in
+      ap (λ (v : ℕ). v / 256 % 16) (sym (y .is)) ∙ key-place (getD ms (j + y .place) none .cursor) (y .place) (omega (arith, y .within, few))
+
+  pub top-place : top / 256 % 16 < q - j
+  top-place = rw place-is (the-place .within)
+
+  pub top-key : keyOf (getD ms (j + top / 256 % 16) none .cursor) (top / 256 % 16) ≡ top
+  top-key = rw place-is (the-place .is)
+
+  pub top-next : Next ms j q (top / 4096) (j + top / 256 % 16)
+  top-next =
+      let p = top / 256 % 16 in
+      let from-j : (y : ℕ) → j ≤ y → j + (y - j) ≡ y = λ y g. omega arith in
+      let low : (x : ℕ) → x < q - j → top ≤ keyOf (getD ms (j + x) none .cursor) x = λ x h. omega (arith, k .lowest .low x h, k .keys x h) in
       record {
-        within = rw at lt;
-        past = rw at (rw (← is) (sym (key-past (getD ms (j + y) none .cursor) y (omega (arith, few)))));
-        key = rw at (k .lowest .is);
-        least = λ x h. omega (arith, k .lowest .low x h, k .keys x h, few);
-        first = λ x h e. omega (arith, k .lowest .low x h, k .keys x h, few);
+        low = omega arith;
+        within = omega (arith, top-place);
+        there = sym (key-past (getD ms (j + p) none .cursor) p (omega arith)) ∙ ap (λ (v : ℕ). v / 4096) top-key;
+        least = λ y g h. let l = rw (from-j y g) at (low (y - j) (omega arith)) in omega (arith, few);
+        first = λ y g h e. let l = rw (from-j y g) at (low (y - j) (omega arith)) in omega (arith, few);
+        fits = omega (arith, top-key, sound-most (sound p top-place));
       }
 
 -- rows with no key

@@ -1,24 +1,14 @@
 -- The keys by which the walk finds its next posting: postings are ordered by document, and those of one document by mention. They serve "A
 -- document is visited if a mention above rank j holds it. All such postings are scored."
-use Prim.Native.Nat.{ℕ, zero, suc, _+_, _*_, _/_, _%_, _≤_, _<_}
+use Prim.Native.Nat.{ℕ, zero, suc, _+_, _≤_, _<_}
 use mathlib.Core.Path.{_≡_}
 use mathlib.Core.List.{List, [], _∷_}
 use lib.ListN.{length, getD}
-use Rattle.meaning.specs.Image.{indexOf}
 use Rattle.contest.specs.Contest.{Kept, Lowest}
-use Rattle.cursor.specs.declared.Cursor.{Cursor}
-use Rattle.cursor.specs.Sound.{Sound}
 use Rattle.cursor.specs.Steps.{takenAt}
 use Rattle.mentions.specs.declared.Mention.{Mention}
 use Rattle.mentions.specs.Mentions.{none}
-
--- a cursor's posting as one number, for place p above rank j
-abbrev pub keyOf : Cursor → ℕ → ℕ
-keyOf c p = c .past * 4096 + p * 256 + c .impact % 256
-
--- the n mentions from rank j on stand somewhere in their lists
-abbrev pub SoundFrom : List ℕ → List Mention → ℕ → ℕ → Type 0
-SoundFrom s ms j n = (x : ℕ) → x < n → Sound s (indexOf s .docs) (getD ms (j + x) none .cursor)
+use Rattle.visit.specs.Key.{keyOf}
 
 -- a row of m places with no key
 abbrev pub blanks : ℕ → List ℕ

@@ -4,62 +4,27 @@ use cursor::Cursor;
 use mentions::Mention;
 use mentions::Tally;
 use runs::Turn;
+use visit::DONE;
+use visit::Visit;
 ghost use mathlib.Core.Path.{_≡_};
-ghost use mathlib.Core.Logic.{_⊎_};
-ghost use mathlib.Core.Bool.{true, false};
 ghost use Prim.Native.Nat.{_+_, _-_, _/_, _%_, _≤_, _<_};
+ghost use lib.ListN.{length};
 ghost use Rattle.runs.specs.declared.Turn.the-variants.{Entered};
 ghost use Rattle.meaning.specs.Image.{indexOf};
 ghost use Rattle.cursor.specs.Sound.{Sound};
 ghost use Rattle.cursor.specs.Steps.{takenAt};
-ghost use Rattle.walk.specs.Keys.{keyOf, SoundFrom, Blank, Keyed};
-ghost use Rattle.walk.specs.Stand.{Stands, Lags, Goes};
-ghost use Rattle.walk.specs.Walk.{meantOf, Starts, runOf, runBy, Leaves};
-
-// No document: it stands after every other.
-pub const DONE: u32 = 4294967295;
+ghost use Rattle.visit.specs.Key.{keyOf};
+ghost use Rattle.visit.specs.Stand.{Stands, Goes, SoundFrom};
+ghost use Rattle.visit.specs.Walk.{meantOf, Starts, runOf, runBy, Leaves};
+ghost use Rattle.walk.specs.Keys.{Blank, Keyed};
 
 // No key.
 const NONE: u64 = 18446744073709551615;
-
-// How a walk ended, with the mentions where it left them: the document plus one, its sum, the postings scored up to then, and the next
-// document plus one.
-pub struct Visit {
-    pub ms: [Mention; 16],
-    pub turn: Turn,
-    pub past: u32,
-    pub sum: u32,
-    pub count: u32,
-    pub next: u32,
-}
 
 // A mention that has gone on, and its posting's key.
 struct Onward {
     pub mention: Mention,
     pub key: u64,
-}
-
-// A walk that ends.
-pub fn ended(ms: [Mention; 16], turn: Turn, past: u32, sum: u32, count: u32, next: u32) -> Visit
-    ensures { λ r. ⌜ r ≡ record { ms = ms; turn = turn; past = past; sum = sum; count = count; next = next } ⌝ }
-{
-    Visit {
-        ms,
-        turn,
-        past,
-        sum,
-        count,
-        next,
-    }
-}
-
-// A posting as one number, by which postings are ordered by document and then by mention: the document plus one, the mention's place above
-// rank j, and the impact.
-fn key(c: Cursor, p: usize) -> u64
-    requires { ⌜ p < 16 ⌝ }
-    ensures { λ r. ⌜ r ≡ keyOf c p ⌝ }
-{
-    (c.past as u64) * 4096 + (p as u64) * 256 + (c.impact as u64) % 256
 }
 
 // The same of the posting after the current one, in a block that has one.
@@ -86,15 +51,6 @@ fn moved(image: &[u8], m: Mention, next: u64) -> Mention
     Mention { cursor: c, ..m }
 }
 
-// A mention that goes on in a block that has no other posting: it goes to the next block, or to the end of its list.
-fn turned(image: &[u8], m: Mention) -> Mention
-    requires { ⌜ Stands (now image) (m .cursor .past - 1) m × (m .cursor .past ≡ 4294967295 → ⊥) × (m .cursor .rest ≡ 0) ⌝ }
-    ensures { λ r. ⌜ Goes (now (image .entry)) (m .cursor .past) m r ⌝ }
-{
-    let c = cursor::turn_block(image, m.cursor);
-    Mention { cursor: c, ..m }
-}
-
 // A mention that goes on past its document, and its key there; that of its next posting is known where its block has one.
 fn gone(image: &[u8], m: Mention, p: usize, next: u64) -> Onward
     requires { ⌜ Stands (now image) (m .cursor .past - 1) m
@@ -104,10 +60,10 @@ fn gone(image: &[u8], m: Mention, p: usize, next: u64) -> Onward
     ensures { λ r. ⌜ Goes (now (image .entry)) (m .cursor .past) m (r .mention) × (r .key ≡ keyOf (r .mention .cursor) p) ⌝ }
 {
     if m.cursor.rest == 0 {
-        let t = turned(image, m);
+        let t = visit::turned(image, m);
         return Onward {
             mention: t,
-            key: key(t.cursor, p),
+            key: visit::key(t.cursor, p),
         };
     }
     let t = moved(image, m, next);
@@ -115,15 +71,6 @@ fn gone(image: &[u8], m: Mention, p: usize, next: u64) -> Onward
         mention: t,
         key: next,
     }
-}
-
-// A mention that was set aside, at its first posting from a document on.
-pub fn sought(image: &[u8], m: Mention, past: u32) -> Mention
-    requires { ⌜ (0 < past) × (past ≤ 16777216) × Lags (now image) (past - 1) m ⌝ }
-    ensures { λ r. ⌜ Goes (now (image .entry)) (past - 1) m r ⌝ }
-{
-    let c = cursor::seek(image, m.cursor, past);
-    Mention { cursor: c, ..m }
 }
 
 // The keys of the mentions above rank j, entered one by one, and of the postings after theirs. The lowest of all.
@@ -146,39 +93,10 @@ fn begin(
     while p < n {
         let m = ms[j + p];
         next[p] = next_key(image, m.cursor, p);
-        top = contest::enter(a, b, c, d, n, p, key(m.cursor, p));
+        top = contest::enter(a, b, c, d, n, p, visit::key(m.cursor, p));
         p += 1;
     }
     top
-}
-
-// Whether postings are taken on: the one at hand is of the same document, or it is of a document that is visited after one that is dropped.
-fn goes_on(t: Tally, bar: u32, floor: u32, q: usize, budget: u32, top: u64, past: u32) -> bool
-    requires { ⌜ (q ≤ 16) × (t .sum + floor < 4294967296) ⌝ }
-    ensures { λ r. ⌜ (r ≡ true → (top / 4096 ≡ past) ⊎ ((t .sum + floor ≤ bar) × (t .count + q ≤ budget) × (top / 4096 < 4294967295)))
-        × (r ≡ false → top / 4096 ≡ past → ⊥) ⌝ }
-{
-    if t.sum + floor <= bar {
-        if (t.count as u64) + (q as u64) <= (budget as u64) {
-            if top < 17592186040320 {
-                return true;
-            }
-        }
-    }
-    top / 4096 == (past as u64)
-}
-
-// A tally at the next posting's document: as it is where that is the same, else with the sum of a new document.
-fn carried(t: Tally, past: u32, here: u32) -> Tally
-    ensures { λ r. ⌜ (here ≡ past → r ≡ t) × ((here ≡ past → ⊥) → r ≡ record { sum = 0; count = t .count }) ⌝ }
-{
-    if here == past {
-        return t;
-    }
-    Tally {
-        sum: 0,
-        count: t.count,
-    }
 }
 
 // The documents from past - 1 on that a mention above rank j holds, under one bar, with `count` postings scored before them: up to the
@@ -195,8 +113,9 @@ pub fn walk(
     count: u32,
     bar: u32,
     budget: u32,
+    room: &mut [u64],
 ) -> Visit
-    requires { ⌜ Starts (now image) ms (now pre) j q past count ⌝ }
+    requires { ⌜ Starts (now image) ms (now pre) j q past count × (length (now room) ≡ 132) ⌝ }
     ensures runs { λ r. ⌜ runOf (indexOf (now (image .entry)) .docs) r ≡ runBy (now (image .entry)) (meantOf (now (image .entry)) q ms) bar j q budget past count ⌝ }
     ensures some { λ r. ⌜ 0 < r .past ⌝ }
     ensures leaves { λ r. ⌜ (r .turn ≡ Entered → Leaves (now (image .entry)) (meantOf (now (image .entry)) q ms) j r) ⌝ }
@@ -211,31 +130,60 @@ pub fn walk(
     let mut c = [NONE; 4];
     let mut d = [NONE; 2];
     let mut next = [0u64; 16];
-    let mut top = begin(image, ms, j, n, &mut a, &mut b, &mut c, &mut d, &mut next);
+    let mut pair = pair::blank(ms[0]);
+    let mut top = NONE;
+    if n == 2 {
+        pair = pair::paired(image, ms[j], ms[j + 1], room);
+    } else {
+        top = begin(image, ms, j, n, &mut a, &mut b, &mut c, &mut d, &mut next);
+    }
     while past != DONE {
         if (budget as u64) < (count as u64) + (q as u64) {
-            return ended(ms, Turn::Stopped, past, 0, count, past);
+            return visit::ended(ms, Turn::Stopped, past, 0, count, past);
         }
+        let limit = budget - (q as u32);
         let mut t = Tally { sum: 0, count };
-        while goes_on(t, bar, floor, q, budget, top, past) {
-            let here = (top / 4096) as u32;
-            let p = (top / 256 % 16) as usize;
-            let i = j + p;
-            let m = ms[i];
-            t = mentions::scored(carried(t, past, here), m.weight, m.cursor.impact);
-            past = here;
-            let g = gone(image, m, p, next[p]);
-            let r = g.mention;
-            ms[i] = r;
-            top = contest::enter(&mut a, &mut b, &mut c, &mut d, n, p, g.key);
-            next[p] = next_key(image, r.cursor, p);
+        if n == 1 {
+            let w = pair::alone(image, ms[j], bar, floor, limit, past, count);
+            let m = w.mention;
+            ms[j] = m;
+            past = w.past;
+            let u = w.tally;
+            t = u;
+            top = visit::key(m.cursor, 0);
+        } else if n == 2 {
+            let w = pair::together(image, pair, room, bar, floor, limit, past, count);
+            let p = w.pair;
+            pair = p;
+            past = w.past;
+            let u = w.tally;
+            t = u;
+            let one = pair::stood(image, p.one, p.x.key, p.x.place);
+            ms[j] = one;
+            let two = pair::stood(image, p.two, p.y.key, p.y.place - pair::PART);
+            ms[j + 1] = two;
+            top = pair::lower(p.x.key, p.y.key);
+        } else {
+            while visit::goes_on(t, bar, floor, limit, (top / 4096) as u32, past) {
+                let here = (top / 4096) as u32;
+                let p = (top / 256 % 16) as usize;
+                let i = j + p;
+                let m = ms[i];
+                t = mentions::scored(visit::carried(t, past, here), m.weight, m.cursor.impact);
+                past = here;
+                let g = gone(image, m, p, next[p]);
+                let r = g.mention;
+                ms[i] = r;
+                top = contest::enter(&mut a, &mut b, &mut c, &mut d, n, p, g.key);
+                next[p] = next_key(image, r.cursor, p);
+            }
         }
         let mut i = j;
         while 0 < i && bar < t.sum + pre[i] {
             i -= 1;
             let mut found = ms[i];
             if found.cursor.past < past {
-                found = sought(image, found, past);
+                found = visit::sought(image, found, past);
                 ms[i] = found;
             }
             if found.cursor.past == past {
@@ -245,9 +193,9 @@ pub fn walk(
         count = t.count;
         let later = (top / 4096) as u32;
         if bar < t.sum {
-            return ended(ms, Turn::Entered, past, t.sum, count, later);
+            return visit::ended(ms, Turn::Entered, past, t.sum, count, later);
         }
         past = later;
     }
-    ended(ms, Turn::Finished, past, 0, count, past)
+    visit::ended(ms, Turn::Finished, past, 0, count, past)
 }

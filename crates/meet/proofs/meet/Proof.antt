@@ -6,8 +6,8 @@ use native.Mathlib.Omega.{arith}
 use lib.ListN.{length}
 use borrow.Author.Needs.{needs}
 use Rattle.meaning.specs.Image.{indexOf}
-use Rattle.walk.specs.StandLaws.{stands-fits}
-use Rattle.walk.specs.Walk.{meantOf}
+use Rattle.visit.specs.StandLaws.{stands-fits}
+use Rattle.visit.specs.Walk.{meantOf}
 use Rattle.meet.specs.Meet.{meetBy}
 use Rattle.meet.proofs.Turns.{Looping, Found, here, found-sought, found-here, hits, rises, misses, stops, enters, passes, finished, starts}
 use Rattle.meet.proofs.meet.Statement.{statement}

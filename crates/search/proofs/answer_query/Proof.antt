@@ -6,7 +6,7 @@ use Prim.Native.Nat.{ℕ}
 use borrow.Author.Needs.{needs}
 use Rattle.meaning.specs.declared.Mode.{Mode}
 use Rattle.meaning.specs.Score as sc
-use Rattle.walk.specs.Walk.{meantOf}
+use Rattle.visit.specs.Walk.{meantOf}
 use Rattle.search.specs.declared.Found.{Found}
 use Rattle.search.specs.Serve.{Served, FoundBy}
 use Rattle.search.specs.AskedLaws.{asked-pairs, asked-served, asked-answer}

@@ -2,8 +2,8 @@
 use mathlib.Core.Path.{refl}
 use native.Mathlib.Omega.{arith}
 use borrow.Author.Needs.{needs}
-use Rattle.walk.specs.StandLaws.{goes-taken}
-use Rattle.walk.specs.KeyLaws.{taken-current}
+use Rattle.visit.specs.StandLaws.{goes-taken}
+use Rattle.visit.specs.Key.{taken-current}
 use Rattle.walk.proofs.moved.Statement.{statement}
 use Rattle.walk.proofs.moved.Tie as tie
 

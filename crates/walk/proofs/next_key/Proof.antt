@@ -1,7 +1,7 @@
 -- `next_key`: the next posting's number, with the mention's place between its document and its impact.
 use native.Mathlib.Omega.{arith}
 use borrow.Author.Needs.{needs}
-use Rattle.walk.specs.KeyLaws.{taken-current}
+use Rattle.visit.specs.Key.{taken-current}
 use Rattle.walk.proofs.next_key.Statement.{statement}
 use Rattle.walk.proofs.next_key.Tie as tie
 

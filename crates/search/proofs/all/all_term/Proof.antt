@@ -8,8 +8,8 @@ use mathlib.Core.List.{List}
 use Rattle.meaning.specs.Score as sc
 use Rattle.runs.specs.AllVisits.{meetAt}
 use Rattle.mentions.specs.declared.Mention.{Mention}
-use Rattle.walk.specs.Stand.{Stands}
-use Rattle.walk.specs.Walk.{meantOf}
+use Rattle.visit.specs.Stand.{Stands}
+use Rattle.visit.specs.Walk.{meantOf}
 use Rattle.meet.specs.Meet.{Meets}
 use Rattle.meet.specs.MeetLaws.{meets-first}
 use Rattle.meet.specs.LeadLaws.{lead-same, lead-each}

@@ -22,8 +22,8 @@ use mathlib.Core.Logic.{⊎-elim}
 use Rattle.mentions.specs.Mentions.{asideOf}
 use Rattle.mentions.specs.MeantLaws.{sums-rise}
 use Rattle.meaning.specs.Score as sc
-use Rattle.walk.specs.Stand.{docOf}
-use Rattle.walk.specs.Walk.{meantOf}
+use Rattle.visit.specs.Stand.{docOf}
+use Rattle.visit.specs.Walk.{meantOf}
 use Rattle.search.proofs.AnyLoop.{Ground, Going, served-fit, served-length, ordered-small, ordered-meant, ordered-long, ordered-stands, ordered-sums, limit-ranks, going-first, going-starts, going-finished, going-stopped, going-entered, entered-under, rank-below, rank-up, going-falls, coming-same, coming-least}
 
 abbrev Inv-loop : tie.InvT-loop

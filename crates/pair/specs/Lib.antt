@@ -1,0 +1,4 @@
+pub mod Alone
+pub mod Room
+pub mod RoomLaws
+pub mod Pair

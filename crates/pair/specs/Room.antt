@@ -1,0 +1,41 @@
+-- The room of one mention's keys: those of its next postings, read ahead. Reading ahead scores nothing.
+use Prim.Native.Nat.{ℕ, zero, suc, _+_, _-_, _≤_, _<_}
+use mathlib.Core.Path.{_≡_}
+use mathlib.Core.Bool.{Bool, true, false}
+use mathlib.Core.Logic.{_⊎_}
+use mathlib.Core.List.{List}
+use lib.ListN.{length, getD}
+use Rattle.cursor.specs.declared.Cursor.{Cursor}
+use Rattle.cursor.specs.Steps.{takenAt}
+use Rattle.visit.specs.Key.{keyOf}
+use Rattle.pair.specs.declared.Spot.{Spot}
+
+-- a cursor k postings further in its block
+abbrev pub furtherAt : List ℕ → Cursor → ℕ → Cursor
+furtherAt s c zero = c
+furtherAt s c (suc k) = takenAt s (furtherAt s c k)
+
+-- the keys of `count` postings from c on stand from place `base` on, and a 0 after them
+pub record Holds (s : List ℕ) (c : Cursor) (p base count : ℕ) (room : List ℕ) : Type 0 where
+  pub some : 0 < count
+  pub few : count ≤ 64
+  pub most : count ≤ c .rest + 1
+  pub keys : (x : ℕ) → x < count → getD room (base + x) 0 ≡ keyOf (furtherAt s c x) p
+  pub end : getD room (base + count) 0 ≡ 0
+
+-- the room filled from c on, and no other place changed
+pub record Unpacked (s : List ℕ) (c : Cursor) (p base : ℕ) (room room′ : List ℕ) : Type 0 where
+  pub count : ℕ
+  pub holds : Holds s c p base count room′
+  pub others : (y : ℕ) → (y < base) ⊎ (base + 65 ≤ y) → getD room′ y 0 ≡ getD room y 0
+  pub long : length room′ ≡ length room
+
+-- a place of the room
+abbrev pub spotAt : List ℕ → ℕ → Spot
+spotAt room place = record { place = place; key = getD room place 0; next = getD room (place + 1) 0 }
+
+-- the next place, or the same
+pub record Passed (room : List ℕ) (go : Bool) (x r : Spot) : Type 0 where
+  pub goes : go ≡ true → (r .place ≡ x .place + 1) × (r .key ≡ x .next)
+  pub stays : go ≡ false → (r .place ≡ x .place) × (r .key ≡ x .key)
+  pub next : r .next ≡ getD room (r .place + 1) 0

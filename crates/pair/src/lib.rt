@@ -1,0 +1,221 @@
+// One mention above rank j, or two: their postings in order of document, each scored, up to a document whose sum passes the bar less P(j), the stop,
+// or the end. Two have the keys of their next postings in a room, read ahead. "All such postings are scored."
+use cursor::Cursor;
+use mentions::Mention;
+use mentions::Tally;
+ghost use mathlib.Core.Path.{_≡_};
+ghost use mathlib.Core.Bool.{true, false};
+ghost use Prim.Native.Nat.{_/_, _%_, _≤_, _<_, min};
+ghost use lib.ListN.{length};
+ghost use Rattle.meaning.specs.Image.{indexOf};
+ghost use Rattle.cursor.specs.Sound.{Sound};
+ghost use Rattle.pair.specs.Alone.{SomeAlone, EachAlone};
+ghost use Rattle.pair.specs.Pair.{seated, Seats, SomePair, EachPair};
+ghost use Rattle.pair.specs.Room.{furtherAt, Unpacked, spotAt, Passed};
+
+// Where the second mention's part of the room starts, and the place after that.
+pub const PART: usize = 66;
+const AFTER: usize = 67;
+
+// The one mention above rank j where it is left, with the last document plus one and the tally there.
+pub struct Swept {
+    pub mention: Mention,
+    pub past: u32,
+    pub tally: Tally,
+}
+
+// A place in the room of one mention's keys: the key there, and the one after it.
+pub struct Spot {
+    pub place: usize,
+    pub key: u64,
+    pub next: u64,
+}
+
+// Two mentions, each where its part of the room starts, and its place there.
+pub struct Pair {
+    pub one: Mention,
+    pub two: Mention,
+    pub x: Spot,
+    pub y: Spot,
+}
+
+// The two mentions above rank j where they are left, with the last document plus one and the tally there.
+pub struct Drawn {
+    pub pair: Pair,
+    pub past: u32,
+    pub tally: Tally,
+}
+
+// The one mention above rank j, over its documents: until a document's sum passes the bar less P(j), the stop, or the end.
+pub fn alone(image: &[u8], m: Mention, bar: u32, floor: u32, limit: u32, past: u32, count: u32) -> Swept
+    requires { ⌜ SomeAlone (now image) m bar floor limit past count ⌝ }
+    ensures { λ r. ⌜ EachAlone (now (image .entry)) m bar floor limit past count (r .mention) (r .past) (r .tally) ⌝ }
+{
+    let mut m = m;
+    let mut past = past;
+    let mut t = Tally { sum: 0, count };
+    while visit::goes_on(t, bar, floor, limit, m.cursor.past, past) {
+        let here = m.cursor.past;
+        t = mentions::scored(visit::carried(t, past, here), m.weight, m.cursor.impact);
+        past = here;
+        m = visit::went(image, m);
+    }
+    Swept {
+        mention: m,
+        past: past,
+        tally: t,
+    }
+}
+
+// The lower of two numbers.
+pub fn lower(a: u64, b: u64) -> u64
+    ensures { λ r. ⌜ r ≡ min a b ⌝ }
+{
+    if b < a { b } else { a }
+}
+
+// The first of two numbers where `go` holds, else the second.
+fn pick(go: bool, a: u64, b: u64) -> u64
+    ensures { λ r. ⌜ (go ≡ true → r ≡ a) × (go ≡ false → r ≡ b) ⌝ }
+{
+    if go { a } else { b }
+}
+
+// Up to `most` keys of a mention's postings, from its own on in its block, into the places of the room from `base` on; 0 after the last.
+fn unpack(image: &[u8], c: Cursor, p: usize, base: usize, most: usize, room: &mut [u64])
+    requires { ⌜ Sound (now image) (indexOf (now image) .docs) c × (p < 16) × (base ≤ 66) × (0 < most) × (most ≤ 64) × (length (now room) ≡ 132) ⌝ }
+    ensures { λ _. ⌜ Unpacked (now (image .entry)) c p base (now (room .entry)) (now (room .exit)) ⌝ }
+{
+    let mut c = c;
+    room[base] = visit::key(c, p);
+    let mut at = base + 1;
+    while at < base + most && 0 < c.rest {
+        c = cursor::take_next(image, c);
+        room[at] = visit::key(c, p);
+        at += 1;
+    }
+    room[at] = 0;
+}
+
+// The room filled from a mention's posting on, and its first place.
+fn filled(image: &[u8], c: Cursor, p: usize, base: usize, most: usize, room: &mut [u64]) -> Spot
+    requires { ⌜ Sound (now image) (indexOf (now image) .docs) c × (p < 16) × (base ≤ 66) × (0 < most) × (most ≤ 64) × (length (now room) ≡ 132) ⌝ }
+    ensures { λ r. ⌜ Unpacked (now (image .entry)) c p base (now (room .entry)) (now (room .exit)) × (r ≡ spotAt (now (room .exit)) base) ⌝ }
+{
+    unpack(image, c, p, base, most, room);
+    Spot {
+        place: base,
+        key: room[base],
+        next: room[base + 1],
+    }
+}
+
+// The next place where `go` holds, else the same.
+fn passed(go: bool, s: Spot, room: &[u64]) -> Spot
+    requires { ⌜ (s .place < 130) × (length (now room) ≡ 132) ⌝ }
+    ensures { λ r. ⌜ Passed (now (room .entry)) go s r ⌝ }
+{
+    let step = pick(go, 1, 0) as usize;
+    let place = s.place + step;
+    Spot {
+        place: place,
+        key: pick(go, s.next, s.key),
+        next: room[place + 1],
+    }
+}
+
+// The same of two numbers of 32 bits.
+fn weigh(go: bool, a: u32, b: u32) -> u32
+    ensures { λ r. ⌜ (go ≡ true → r ≡ a) × (go ≡ false → r ≡ b) ⌝ }
+{
+    if go { a } else { b }
+}
+
+// A mention n postings further in its block, at the one with this key.
+pub fn stood(image: &[u8], m: Mention, key: u64, n: usize) -> Mention
+    requires { ⌜ Sound (now image) (indexOf (now image) .docs) (m .cursor)
+        × (n ≤ m .cursor .rest)
+        × (n ≤ 64)
+        × (key / 4096 ≡ furtherAt (now image) (m .cursor) n .past)
+        × (0 < n → key % 256 ≡ furtherAt (now image) (m .cursor) n .impact) ⌝ }
+    ensures { λ r. ⌜ r ≡ seated (now (image .entry)) m n ⌝ }
+{
+    if n == 0 {
+        return m;
+    }
+    let k = n as u32;
+    let c = Cursor {
+        past: (key / 4096) as u32,
+        impact: (key % 256) as u32,
+        at: m.cursor.at + k * m.cursor.step,
+        rest: m.cursor.rest - k,
+        left: m.cursor.left,
+        step: m.cursor.step,
+        last: m.cursor.last,
+    };
+    Mention { cursor: c, ..m }
+}
+
+// No pair yet: any mention twice, at no place.
+pub fn blank(m: Mention) -> Pair {
+    let none = Spot { place: 0, key: 0, next: 0 };
+    Pair { one: m, two: m, x: none, y: none }
+}
+
+// Two mentions at their own postings, with a few keys of each in its part of the room: a document that enters the table ends the walk.
+pub fn paired(image: &[u8], one: Mention, two: Mention, room: &mut [u64]) -> Pair
+    requires { ⌜ Sound (now image) (indexOf (now image) .docs) (one .cursor)
+        × Sound (now image) (indexOf (now image) .docs) (two .cursor)
+        × (length (now room) ≡ 132) ⌝ }
+    ensures { λ r. ⌜ Seats (now (image .entry)) one two r (now (room .exit)) ⌝ }
+{
+    let x = filled(image, one.cursor, 0, 0, 8, room);
+    let y = filled(image, two.cursor, 1, PART, 8, room);
+    Pair { one, two, x, y }
+}
+
+// The two mentions above rank j, over their documents: as `alone`. Each has the keys of its next postings in its own part of the room.
+pub fn together(image: &[u8], p: Pair, room: &mut [u64], bar: u32, floor: u32, limit: u32, past: u32, count: u32) -> Drawn
+    requires { ⌜ SomePair (now image) (p .one) (p .two) (p .x) (p .y) (now room) bar floor limit past count ⌝ }
+    ensures { λ r. ⌜ EachPair (now (image .entry)) (p .one) (p .two) (p .x) (p .y) (now (room .entry)) bar floor limit past count (r .pair .one) (r .pair .two) (r .pair .x) (r .pair .y) (now (room .exit)) (r .past) (r .tally) ⌝ }
+{
+    let mut a = p.one;
+    let mut b = p.two;
+    let mut x = p.x;
+    let mut y = p.y;
+    let mut past = past;
+    let mut t = Tally { sum: 0, count };
+    let mut top = lower(x.key, y.key);
+    while visit::goes_on(t, bar, floor, limit, (top / 4096) as u32, past) {
+        let here = (top / 4096) as u32;
+        let first = x.key < y.key;
+        let second = !first;
+        t = mentions::scored(visit::carried(t, past, here), weigh(first, a.weight, b.weight), (top % 256) as u32);
+        past = here;
+        let old = top;
+        x = passed(first, x, room);
+        y = passed(second, y, room);
+        top = lower(x.key, y.key);
+        if top == 0 {
+            if first {
+                a = visit::went(image, stood(image, a, old, x.place - 1));
+                x = filled(image, a.cursor, 0, 0, 64, room);
+            } else {
+                b = visit::went(image, stood(image, b, old, y.place - AFTER));
+                y = filled(image, b.cursor, 1, PART, 64, room);
+            }
+            top = lower(x.key, y.key);
+        }
+    }
+    let pair = Pair {
+        one: a,
+        two: b,
+        x: x,
+        y: y,
+    };
+    Drawn {
+        pair: pair,
+        past: past,
+        tally: t,
+    }
+}

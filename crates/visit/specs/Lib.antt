@@ -1,0 +1,11 @@
+pub mod Stand
+pub mod Walk
+pub mod NextLaws
+pub mod StandLaws
+pub mod PlacedLaws
+pub mod StartLaws
+pub mod Key
+pub mod Scoring
+pub mod Looking
+pub mod Walking
+pub mod Postings

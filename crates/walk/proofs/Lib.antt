@@ -1,4 +1,0 @@
-pub mod Scoring
-pub mod Looking
-pub mod Walking
-pub mod Postings
