@@ -5,3 +5,4 @@ pub mod GatherLaws
 pub mod WriteLaws
 pub mod Asked
 pub mod AskedLaws
+pub mod OneLaws

@@ -35,7 +35,12 @@ pub fn answer_query(image: &[u8], sheet: &[u32], query: Record, docs: u32, out: 
     let found = match mode {
         Mode::Plain => any::any_term(image, ms, q, k, budget, docs, false),
         Mode::Pruned => any::any_term(image, ms, q, k, budget, docs, true),
-        Mode::All => all::all_term(image, ms, q, k, budget, docs),
+        // one list is intersected with nothing: what mode 0 finds
+        Mode::All => if q == 1 {
+            any::any_term(image, ms, q, k, budget, docs, false)
+        } else {
+            all::all_term(image, ms, q, k, budget, docs)
+        },
     };
     write::write(found, k, out);
 }

@@ -1,15 +1,18 @@
--- `answer_query` meets its contract: what the walk of its mode has found, and `write` puts down, is the written answer.
+-- `answer_query` meets its contract: what the walk has found by the rule of its mode, and `write` puts down, is the written answer.
 use mathlib.Core.Path.{_≡_, _∙_}
 use mathlib.Core.List.{List}
 use mathlib.Core.Logic.{⊎-elim}
 use Prim.Native.Nat.{ℕ}
+use native.Mathlib.Omega.{arith}
 use borrow.Author.Needs.{needs}
 use Rattle.meaning.specs.declared.Mode.{Mode}
 use Rattle.meaning.specs.Score as sc
 use Rattle.visit.specs.Walk.{meantOf}
 use Rattle.search.specs.declared.Found.{Found}
 use Rattle.search.specs.Serve.{Served, FoundBy}
+use Rattle.search.specs.OneLaws.{one-found}
 use Rattle.search.specs.AskedLaws.{asked-pairs, asked-served, asked-answer}
+use Rattle.search.proofs.AnyLoop.{served-length}
 use Rattle.search.proofs.answer_query.Statement.{statement}
 use Rattle.search.proofs.answer_query.Tie as tie
 
@@ -34,7 +37,9 @@ found-by c =
     (λ w. found-same (w .1 .given .1) (w .3) (w .2 .ensures))
     (⊎-elim
     (λ w. found-same (w .1 .given .1) (w .3) (w .2 .ensures))
-    (λ w. found-same (w .1 .given .1) (w .3) (w .2 .ensures)))
+    (⊎-elim
+    (λ w. found-same (w .1 .given .1) (w .4) (one-found _ (omega (arith, served-length (served (c .before)) (c .before .gather .ensures .size), w .2 .taken)) (w .3 .ensures)))
+    (λ w. found-same (w .1 .given .1) (w .4) (w .3 .ensures))))
     (c .match .came)
 
 gather-requires : tie.Need-gather-requires
@@ -58,8 +63,11 @@ any-term-requires-2 c κs = served (c .before .before)
 enum-told-3 : tie.Need-enum-told-3
 enum-told-3 c = search needs
 
+any-term-requires-3 : tie.Need-any-term-requires-3
+any-term-requires-3 c κs = served (c .before .before .before)
+
 all-term-requires : tie.Need-all-term-requires
-all-term-requires c κs = served (c .before .before)
+all-term-requires c κs = served (c .before .before .before)
 
 write-requires : tie.Need-write-requires
 write-requires c κs =
@@ -88,6 +96,7 @@ answer-query-spec =
     enum-told-2
     any-term-requires-2
     enum-told-3
+    any-term-requires-3
     all-term-requires
     write-requires
     same-length
