@@ -1,8 +1,6 @@
 // Modes 0 and 1: a document matches if some list holds it. The walk hands the mentions back at each document that enters the table.
 use mentions::Mention;
 use runs::Turn;
-ghost use mathlib.Core.Path.{_≡_};
-ghost use Prim.Native.Nat.{ℕ, _≤_, _<_};
 ghost use Rattle.visit.specs.Walk.{meantOf};
 ghost use Rattle.search.specs.Serve.{Served, FoundBy, modeFor};
 
@@ -27,8 +25,9 @@ pub fn any_term(
     let mut count: u32 = 0;
     let mut j = mentions::aside(&pre, 0, limit, bar);
     let mut past = mentions::least(os, j, q);
+    let mut room = [0u64; 132];
     loop {
-        let visit = walk::walk(image, os, &pre, j, q, past, count, bar, budget);
+        let visit = walk::walk(image, os, &pre, j, q, past, count, bar, budget, &mut room);
         count = visit.count;
         let turn = visit.turn;
         match turn {

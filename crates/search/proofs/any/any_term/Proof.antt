@@ -1,21 +1,11 @@
 use mathlib.Core.Path.{_≡_, refl, sym, ap, _∙_}
-use Prim.Native.Nat.{ℕ, suc, _+_, _-_, _*_, _≤_, _<_}
+use Prim.Native.Nat.{ℕ, _-_, _≤_}
 use native.Mathlib.Omega.{arith}
-use lib.ListN.{length, take, drop, getD, set}
+use lib.ListN.{length, getD}
 use Rattle.meaning.specs.Cost.{P}
 use borrow.Author.Needs.{needs}
 use Rattle.search.proofs.any.any_term.Statement.{statement}
 use Rattle.search.proofs.any.any_term.Tie as tie
-use Rattle.search.proofs.any.any_term.Reads as reads
-use Rattle.search.proofs.any.any_term.Lts as lts
-use Rattle.mentions.proofs.aside.Reads as aside-reads
-use Rattle.mentions.proofs.least.Reads as least-reads
-use Rattle.mentions.proofs.order.Reads as order-reads
-use Rattle.mentions.proofs.prefix.Reads as prefix-reads
-use Rattle.ranking.proofs.Table.bar.Reads as bar-reads
-use Rattle.ranking.proofs.Table.insert.Reads as insert-reads
-use Rattle.ranking.proofs.empty.Reads as empty-reads
-use Rattle.walk.proofs.walk.Reads as walk-reads
 use mathlib.Core.List.{List}
 use mathlib.Core.Bool.{Bool, true, false, cond}
 use mathlib.Core.Logic.{⊎-elim}
@@ -27,11 +17,11 @@ use Rattle.visit.specs.Walk.{meantOf}
 use Rattle.search.proofs.AnyLoop.{Ground, Going, served-fit, served-length, ordered-small, ordered-meant, ordered-long, ordered-stands, ordered-sums, limit-ranks, going-first, going-starts, going-finished, going-stopped, going-entered, entered-under, rank-below, rank-up, going-falls, coming-same, coming-least}
 
 abbrev Inv-loop : tie.InvT-loop
-Inv-loop image q k budget docs pruned os₀ pre limit table₀ bar₀ count₀ j₀ past₀ os table bar count j past =
-    (μs : List sc.Mention) (g : Ground image q k budget docs pruned pre limit os₀ μs) → Going g os table bar count j past
+Inv-loop image q k budget docs pruned os₀ pre limit table₀ bar₀ count₀ j₀ past₀ room₀ os table bar count j past room =
+    ((μs : List sc.Mention) (g : Ground image q k budget docs pruned pre limit os₀ μs) → Going g os table bar count j past) × (length room ≡ 132)
 
 abbrev μ-loop : tie.MeasureT-loop
-μ-loop image q k budget docs pruned os₀ pre limit table₀ bar₀ count₀ j₀ past₀ os table bar count j past =
+μ-loop image q k budget docs pruned os₀ pre limit table₀ bar₀ count₀ j₀ past₀ room₀ os table bar count j past room =
     docs - docOf docs past
 
 long : (c : tie.After-order Inv-loop μ-loop) → length (c .before .before .args .ms) ≡ 16
@@ -100,13 +90,17 @@ loop-holds : tie.Need-loop-holds Inv-loop μ-loop
 loop-holds c =
     let o = c .before .before .before .before .before .before in
     let v = o .before .before .pre in
-    λ μs g.
-    going-first g (ordered-long v (long o) (o .order .ensures)) (ordered-stands v (long o) (o .order .ensures)) (c .before .before .before .empty .ensures .0) (c .before .before .before .empty .ensures .1) (c .before .aside .ensures) (c .least .ensures)
+    (λ μs g.
+    going-first g (ordered-long v (long o) (o .order .ensures)) (ordered-stands v (long o) (o .order .ensures)) (c .before .before .before .empty .ensures .0) (c .before .before .before .empty .ensures .1) (c .before .aside .ensures) (c .least .ensures), refl)
 
 -- src/any.rt:31:13
+slice-aggregate-walk : tie.Need-slice-aggregate-walk Inv-loop μ-loop
+slice-aggregate-walk c = search needs
+
+-- src/any.rt:32:21
 walk-requires : tie.Need-walk-requires Inv-loop μ-loop
 walk-requires c κs =
-    going-starts (ground (c .before .before .before .before .before .before)) (c .before .loop .inv _ (ground (c .before .before .before .before .before .before)))
+    (going-starts (ground (c .before .before .before .before .before .before .before)) (c .before .before .loop .inv .0 _ (ground (c .before .before .before .before .before .before .before))), c .before .before .loop .inv .1)
 
 -- src/any.rt:36:17
 enum-told : tie.Need-enum-told Inv-loop μ-loop
@@ -116,8 +110,8 @@ enum-told c =
 -- src/any.rt:36:17
 returns : tie.Need-returns Inv-loop μ-loop
 returns c =
-    let g = ground (c .before .before .before .before .before .before .before .before .before) in
-    going-finished g (c .before .before .before .before .loop .inv _ g) (c .before .before .walk .result) (c .before .before .walk .ensures .0) (c .enum-told .given .1)
+    let g = ground (c .before .before .before .before .before .before .before .before .before .before .before) in
+    going-finished g (c .before .before .before .before .before .before .loop .inv .0 _ g) (c .before .before .before .walk .result) (c .before .before .before .walk .ensures .0) (c .enum-told .given .1)
 
 -- src/any.rt:45:28
 enum-told-2 : tie.Need-enum-told-2 Inv-loop μ-loop
@@ -125,15 +119,15 @@ enum-told-2 c =
     search needs
 
 -- src/any.rt:45:28
-sub-t26 : tie.Need-sub-t26 Inv-loop μ-loop
-sub-t26 c =
-    omega (arith, c .before .before .before .walk .ensures .1 .0)
+sub-t29 : tie.Need-sub-t29 Inv-loop μ-loop
+sub-t29 c =
+    omega (arith, c .before .before .before .before .walk .ensures .1 .0)
 
 -- src/any.rt:43:17
 returns-2 : tie.Need-returns-2 Inv-loop μ-loop
 returns-2 c =
-    let g = ground (c .before .before .before .before .before .before .before .before .before .before) in
-    going-stopped g (c .before .before .before .before .before .loop .inv _ g) (c .before .before .before .walk .result) (c .before .before .before .walk .ensures .0) (c .before .enum-told2 .given .1)
+    let g = ground (c .before .before .before .before .before .before .before .before .before .before .before .before) in
+    going-stopped g (c .before .before .before .before .before .before .before .loop .inv .0 _ g) (c .before .before .before .before .walk .result) (c .before .before .before .before .walk .ensures .0) (c .before .enum-told2 .given .1)
 
 -- src/any.rt:50:44
 enum-told-3 : tie.Need-enum-told-3 Inv-loop μ-loop
@@ -143,39 +137,39 @@ enum-told-3 c =
 -- src/any.rt:50:44
 sub-insert : tie.Need-sub-insert Inv-loop μ-loop
 sub-insert c =
-    omega (arith, c .before .before .before .walk .ensures .1 .0)
+    omega (arith, c .before .before .before .before .walk .ensures .1 .0)
 
 -- src/any.rt:50:21
 insert-requires : tie.Need-insert-requires Inv-loop μ-loop
 insert-requires c κs =
-    let g = ground (c .before .before .before .before .before .before .before .before .before .before) in
-    let w = c .before .before .before .before .before .loop .inv _ g in
-    let r = c .before .before .before .walk .result in
-    let e = c .before .before .before .walk .ensures .0 in
+    let g = ground (c .before .before .before .before .before .before .before .before .before .before .before .before) in
+    let w = c .before .before .before .before .before .before .before .loop .inv .0 _ g in
+    let r = c .before .before .before .before .walk .result in
+    let e = c .before .before .before .before .walk .ensures .0 in
     let is = c .before .enum-told3 .given .1 in
-    let l = c .before .before .before .walk .ensures .1 .1 is in
+    let l = c .before .before .before .before .walk .ensures .1 .1 is in
     (w .within, g .least, g .most, entered-under g w r e is l)
 
 -- src/any.rt:52:17
 bar-requires : tie.Need-bar-requires Inv-loop μ-loop
 bar-requires c κs =
-    let g = ground (c .before .before .before .before .before .before .before .before .before .before .before) in
-    let w = c .before .before .before .before .before .before .loop .inv _ g in
-    let r = c .before .before .before .before .walk .result in
-    let e = c .before .before .before .before .walk .ensures .0 in
+    let g = ground (c .before .before .before .before .before .before .before .before .before .before .before .before .before) in
+    let w = c .before .before .before .before .before .before .before .before .loop .inv .0 _ g in
+    let r = c .before .before .before .before .before .walk .result in
+    let e = c .before .before .before .before .before .walk .ensures .0 in
     let is = c .before .before .enum-told3 .given .1 in
-    let l = c .before .before .before .before .walk .ensures .1 .1 is in
+    let l = c .before .before .before .before .before .walk .ensures .1 .1 is in
     (c .insert .ensures .1, g .least, g .most)
 
 -- src/any.rt:56:21
 aside-requires-2 : tie.Need-aside-requires-2 Inv-loop μ-loop
 aside-requires-2 c κs =
-    let g = ground (c .before .before .before .before .before .before .before .before .before .before .before .before .before .before) in
-    let w = c .before .before .before .before .before .before .before .before .before .loop .inv _ g in
-    let r = c .before .before .before .before .before .before .before .walk .result in
-    let e = c .before .before .before .before .before .before .before .walk .ensures .0 in
+    let g = ground (c .before .before .before .before .before .before .before .before .before .before .before .before .before .before .before .before) in
+    let w = c .before .before .before .before .before .before .before .before .before .before .before .loop .inv .0 _ g in
+    let r = c .before .before .before .before .before .before .before .before .walk .result in
+    let e = c .before .before .before .before .before .before .before .before .walk .ensures .0 in
     let is = c .before .before .before .before .before .enum-told3 .given .1 in
-    let l = c .before .before .before .before .before .before .before .walk .ensures .1 .1 is in
+    let l = c .before .before .before .before .before .before .before .before .walk .ensures .1 .1 is in
     let i = c .before .before .before .insert in
     let x = rank-below g w r e is l (i .result) (i .ensures .0) in
     (x .0, omega (arith, g .limited, g .few), rw (c .before .before .bar .ensures) (x .1), g .rises)
@@ -183,58 +177,60 @@ aside-requires-2 c κs =
 -- src/any.rt:59:21
 least-requires-2 : tie.Need-least-requires-2 Inv-loop μ-loop
 least-requires-2 c κs =
-    ground (c .before .before .before .before .before .before .before .before .before .before .before .before .before .before .before .before) .few
+    ground (c .before .before .before .before .before .before .before .before .before .before .before .before .before .before .before .before .before .before) .few
 
 -- src/any.rt:30:5
 loop-less : tie.Need-loop-less Inv-loop μ-loop
 loop-less c =
-    let g = ground (c .before .before .before .before .before .before .before .before .before .before .before .before .before .before .before .before .before) in
-    let w = c .before .before .before .before .before .before .before .before .before .before .before .before .loop .inv _ g in
-    let r = c .before .before .before .before .before .before .before .before .before .before .walk .result in
-    let e = c .before .before .before .before .before .before .before .before .before .before .walk .ensures .0 in
+    let g = ground (c .before .before .before .before .before .before .before .before .before .before .before .before .before .before .before .before .before .before .before) in
+    let w = c .before .before .before .before .before .before .before .before .before .before .before .before .before .before .loop .inv .0 _ g in
+    let r = c .before .before .before .before .before .before .before .before .before .before .before .walk .result in
+    let e = c .before .before .before .before .before .before .before .before .before .before .before .walk .ensures .0 in
     let is = c .before .before .before .before .before .before .before .before .enum-told3 .given .1 in
-    let l = c .before .before .before .before .before .before .before .before .before .before .walk .ensures .1 .1 is in
-    let ranked = c .before .before .aside2 .ensures ∙ ap (asideOf (c .before .before .before .before .before .before .before .before .before .before .before .before .before .before .before .before .before .before .prefix .result) (c .before .before .before .before .before .before .before .before .before .before .before .before .before .before .before .before .before .if1 .limit)) (c .before .before .before .before .before .bar .ensures) in
+    let l = c .before .before .before .before .before .before .before .before .before .before .before .walk .ensures .1 .1 is in
+    let ranked = c .before .before .aside2 .ensures ∙ ap (asideOf (c .before .before .before .before .before .before .before .before .before .before .before .before .before .before .before .before .before .before .before .before .prefix .result) (c .before .before .before .before .before .before .before .before .before .before .before .before .before .before .before .before .before .before .before .if1 .limit)) (c .before .before .before .before .before .bar .ensures) in
     let coming = c .least2 .ensures ∙ coming-least g w r e is l (rank-up g w r e is l (c .before .before .before .before .before .before .insert .result) (c .before .before .before .before .before .before .insert .ensures .0) ranked) in
     going-falls g w r e is l (c .before .before .aside2 .result) coming
 
 -- src/any.rt:30:5
 loop-again : tie.Need-loop-again Inv-loop μ-loop
 loop-again c =
-    λ μs g.
-    let w = c .before .before .before .before .before .before .before .before .before .before .before .before .loop .inv μs g in
-    let r = c .before .before .before .before .before .before .before .before .before .before .walk .result in
-    let e = c .before .before .before .before .before .before .before .before .before .before .walk .ensures .0 in
+    (λ μs g.
+    let w = c .before .before .before .before .before .before .before .before .before .before .before .before .before .before .loop .inv .0 μs g in
+    let r = c .before .before .before .before .before .before .before .before .before .before .before .walk .result in
+    let e = c .before .before .before .before .before .before .before .before .before .before .before .walk .ensures .0 in
     let is = c .before .before .before .before .before .before .before .before .enum-told3 .given .1 in
-    let l = c .before .before .before .before .before .before .before .before .before .before .walk .ensures .1 .1 is in
-    let ranked = c .before .before .aside2 .ensures ∙ ap (asideOf (c .before .before .before .before .before .before .before .before .before .before .before .before .before .before .before .before .before .before .prefix .result) (c .before .before .before .before .before .before .before .before .before .before .before .before .before .before .before .before .before .if1 .limit)) (c .before .before .before .before .before .bar .ensures) in
+    let l = c .before .before .before .before .before .before .before .before .before .before .before .walk .ensures .1 .1 is in
+    let ranked = c .before .before .aside2 .ensures ∙ ap (asideOf (c .before .before .before .before .before .before .before .before .before .before .before .before .before .before .before .before .before .before .before .before .prefix .result) (c .before .before .before .before .before .before .before .before .before .before .before .before .before .before .before .before .before .before .before .if1 .limit)) (c .before .before .before .before .before .bar .ensures) in
     let coming = c .least2 .ensures ∙ coming-least g w r e is l (rank-up g w r e is l (c .before .before .before .before .before .before .insert .result) (c .before .before .before .before .before .before .insert .ensures .0) ranked) in
-    rw (c .before .before .before .before .before .bar .ensures) (going-entered g w r e is l (c .before .before .before .before .before .before .insert .ensures .0) (c .before .before .before .before .before .before .insert .ensures .1) (c .before .before .before .before .before .before .insert .ensures .2) ranked coming)
+    rw (c .before .before .before .before .before .bar .ensures) (going-entered g w r e is l (c .before .before .before .before .before .before .insert .ensures .0) (c .before .before .before .before .before .before .insert .ensures .1) (c .before .before .before .before .before .before .insert .ensures .2) ranked coming),
+    search needs)
 
 -- src/any.rt:30:5
 loop-less-2 : tie.Need-loop-less-2 Inv-loop μ-loop
 loop-less-2 c =
-    let g = ground (c .before .before .before .before .before .before .before .before .before .before .before .before .before .before .before .before) in
-    let w = c .before .before .before .before .before .before .before .before .before .before .before .loop .inv _ g in
-    let r = c .before .before .before .before .before .before .before .before .before .walk .result in
-    let e = c .before .before .before .before .before .before .before .before .before .walk .ensures .0 in
+    let g = ground (c .before .before .before .before .before .before .before .before .before .before .before .before .before .before .before .before .before .before) in
+    let w = c .before .before .before .before .before .before .before .before .before .before .before .before .before .loop .inv .0 _ g in
+    let r = c .before .before .before .before .before .before .before .before .before .before .walk .result in
+    let e = c .before .before .before .before .before .before .before .before .before .before .walk .ensures .0 in
     let is = c .before .before .before .before .before .before .before .enum-told3 .given .1 in
-    let l = c .before .before .before .before .before .before .before .before .before .walk .ensures .1 .1 is in
+    let l = c .before .before .before .before .before .before .before .before .before .before .walk .ensures .1 .1 is in
     let coming = coming-same g w r e is l (c .if2 .left) in
     going-falls g w r e is l (c .before .aside2 .result) coming
 
 -- src/any.rt:30:5
 loop-again-2 : tie.Need-loop-again-2 Inv-loop μ-loop
 loop-again-2 c =
-    λ μs g.
-    let w = c .before .before .before .before .before .before .before .before .before .before .before .loop .inv μs g in
-    let r = c .before .before .before .before .before .before .before .before .before .walk .result in
-    let e = c .before .before .before .before .before .before .before .before .before .walk .ensures .0 in
+    (λ μs g.
+    let w = c .before .before .before .before .before .before .before .before .before .before .before .before .before .loop .inv .0 μs g in
+    let r = c .before .before .before .before .before .before .before .before .before .before .walk .result in
+    let e = c .before .before .before .before .before .before .before .before .before .before .walk .ensures .0 in
     let is = c .before .before .before .before .before .before .before .enum-told3 .given .1 in
-    let l = c .before .before .before .before .before .before .before .before .before .walk .ensures .1 .1 is in
-    let ranked = sym (c .if2 .left) ∙ c .before .aside2 .ensures ∙ ap (asideOf (c .before .before .before .before .before .before .before .before .before .before .before .before .before .before .before .before .before .prefix .result) (c .before .before .before .before .before .before .before .before .before .before .before .before .before .before .before .before .if1 .limit)) (c .before .before .before .before .bar .ensures) in
-    let coming = coming-same g w r e is l {rank = c .before .before .before .before .before .before .before .before .before .before .before .loop .j} refl in
-    rw (c .before .before .before .before .bar .ensures) (going-entered g w r e is l (c .before .before .before .before .before .insert .ensures .0) (c .before .before .before .before .before .insert .ensures .1) (c .before .before .before .before .before .insert .ensures .2) ranked coming)
+    let l = c .before .before .before .before .before .before .before .before .before .before .walk .ensures .1 .1 is in
+    let ranked = sym (c .if2 .left) ∙ c .before .aside2 .ensures ∙ ap (asideOf (c .before .before .before .before .before .before .before .before .before .before .before .before .before .before .before .before .before .before .before .prefix .result) (c .before .before .before .before .before .before .before .before .before .before .before .before .before .before .before .before .before .before .if1 .limit)) (c .before .before .before .before .bar .ensures) in
+    let coming = coming-same g w r e is l {rank = c .before .before .before .before .before .before .before .before .before .before .before .before .before .loop .j} refl in
+    rw (c .before .before .before .before .bar .ensures) (going-entered g w r e is l (c .before .before .before .before .before .insert .ensures .0) (c .before .before .before .before .before .insert .ensures .1) (c .before .before .before .before .before .insert .ensures .2) ranked coming),
+    search needs)
 
 pub any-term-spec : {M : Type 1} → statement M
 any-term-spec =
@@ -248,11 +244,12 @@ any-term-spec =
     aside-requires
     least-requires
     loop-holds
+    slice-aggregate-walk
     walk-requires
     enum-told
     returns
     enum-told-2
-    sub-t26
+    sub-t29
     returns-2
     enum-told-3
     sub-insert
