@@ -4,7 +4,7 @@ use super::fields::read_entry;
 use super::list::Blocks;
 use super::list::judge_blocks;
 ghost use mathlib.Core.Path.{_≡_};
-ghost use Prim.Native.Nat.{ℕ, _+_, _*_, _≤_, _<_};
+ghost use Prim.Native.Nat.{_+_, _*_, _≤_, _<_};
 ghost use lib.ListN.{length};
 ghost use Rattle.meaning.specs.Image.{entryFits, termsAt};
 ghost use Rattle.image.specs.Fields.{entryFields};

@@ -1,6 +1,6 @@
 // The fixed fields of an image, as document 01 has them in "The image". Each row of fields is read as one number and taken apart.
 ghost use mathlib.Core.Path.{_≡_};
-ghost use Prim.Native.Nat.{ℕ, _+_, _*_, _≤_, _<_};
+ghost use Prim.Native.Nat.{_+_, _*_, _≤_, _<_};
 ghost use lib.ListN.{length};
 ghost use Rattle.meaning.specs.Layout.{headerOf, entryAt, headAt};
 ghost use Rattle.image.specs.Fields.{headerFields, entryFields, headFields};

@@ -6,7 +6,7 @@ mod list;
 mod words;
 
 ghost use mathlib.Core.Path.{_≡_};
-ghost use Prim.Native.Nat.{ℕ, _-_, _*_, _≤_, _<_};
+ghost use Prim.Native.Nat.{_-_, _*_, _≤_, _<_};
 ghost use lib.ListN.{length};
 ghost use Rattle.meaning.specs.Image.{imageOf};
 ghost use Rattle.image.specs.Verdict.{endsWell, verdict, sizesOf};

@@ -1,10 +1,10 @@
 -- One mention above rank j: while it goes on alone it is the next posting's each time.
-use mathlib.Core.Path.{_≡_, refl, sym, ap, _∙_}
+use mathlib.Core.Path.{_≡_, refl, ap}
 use mathlib.Core.Logic.{_⊎_}
 use mathlib.Core.List.{List}
 use Prim.Native.Nat.{ℕ, _+_, _*_, _-_, _≤_, _<_}
 use native.Mathlib.Omega.{arith}
-use lib.ListN.{length, getD, set}
+use lib.ListN.{getD, set}
 use lib.Seq.{getD-set-same, set-getD, set-set}
 use Rattle.meaning.specs.Score as sc
 use Rattle.runs.specs.Run.{Run}

@@ -1,5 +1,5 @@
 -- Two mentions above rank j, each with the keys of its next postings in a room: the lower key's is the next posting.
-use mathlib.Core.Path.{_≡_, refl, sym, ap, subst, _∙_}
+use mathlib.Core.Path.{_≡_, refl, sym, ap, _∙_}
 use mathlib.Core.Bool.{true, false, not, true≢false}
 use mathlib.Core.Logic.{_⊎_, inl, inr, ⊎-elim}
 use mathlib.Core.List.{List}
@@ -15,7 +15,6 @@ use Rattle.meaning.specs.Score as sc
 use Rattle.runs.specs.Run.{Run}
 use Rattle.cursor.specs.declared.Cursor.{Cursor}
 use Rattle.cursor.specs.Sound.{Sound}
-use Rattle.cursor.specs.Steps.{takenAt}
 use Rattle.mentions.specs.declared.Mention.{Mention}
 use Rattle.mentions.specs.declared.Tally.{Tally}
 use Rattle.mentions.specs.Mentions.{none}

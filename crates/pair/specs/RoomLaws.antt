@@ -1,8 +1,8 @@
 -- Laws of the room: a cursor further in its block, and the keys that are put in one by one.
 use mathlib.Core.Path.{_≡_, refl, sym, ap, subst, _∙_}
-use mathlib.Core.Logic.{_⊎_, inl, inr, ⊎-elim}
+use mathlib.Core.Logic.{_⊎_, ⊎-elim}
 use mathlib.Core.List.{List}
-use Prim.Native.Nat.{ℕ, zero, suc, _+_, _*_, _-_, _/_, _%_, _≤_, _<_}
+use Prim.Native.Nat.{ℕ, zero, suc, _+_, _*_, _-_, _≤_, _<_}
 use native.Mathlib.Omega.{arith}
 use lib.ListN.{length, getD, set, length-set}
 use lib.Seq.{getD-set-same, getD-set-other}
@@ -12,7 +12,7 @@ use Rattle.cursor.specs.Sound.{Sound}
 use Rattle.cursor.specs.Steps.{takenAt}
 use Rattle.cursor.specs.StepLaws.{taking}
 use Rattle.visit.specs.Key.{keyOf}
-use Rattle.pair.specs.Room.{furtherAt, Holds, Unpacked}
+use Rattle.pair.specs.Room.{furtherAt, Unpacked}
 
 -- what stays and what falls on the way
 module _ (s : List ℕ) (c : Cursor) where

@@ -15,6 +15,7 @@ ghost use Rattle.pair.specs.Room.{furtherAt, Unpacked, spotAt, Passed};
 
 // Where the second mention's part of the room starts, and the place after that.
 pub const PART: usize = 66;
+
 const AFTER: usize = 67;
 
 // The one mention above rank j where it is left, with the last document plus one and the tally there.
@@ -47,7 +48,15 @@ pub struct Drawn {
 }
 
 // The one mention above rank j, over its documents: until a document's sum passes the bar less P(j), the stop, or the end.
-pub fn alone(image: &[u8], m: Mention, bar: u32, floor: u32, limit: u32, past: u32, count: u32) -> Swept
+pub fn alone(
+    image: &[u8],
+    m: Mention,
+    bar: u32,
+    floor: u32,
+    limit: u32,
+    past: u32,
+    count: u32,
+) -> Swept
     requires { ⌜ SomeAlone (now image) m bar floor limit past count ⌝ }
     ensures { λ r. ⌜ EachAlone (now (image .entry)) m bar floor limit past count (r .mention) (r .past) (r .tally) ⌝ }
 {
@@ -157,9 +166,20 @@ pub fn stood(image: &[u8], m: Mention, key: u64, n: usize) -> Mention
 }
 
 // No pair yet: any mention twice, at no place.
-pub fn blank(m: Mention) -> Pair {
-    let none = Spot { place: 0, key: 0, next: 0 };
-    Pair { one: m, two: m, x: none, y: none }
+pub fn blank(m: Mention) -> Pair
+    ensures { λ r. ⌜ r ≡ record { one = m; two = m; x = record { place = 0; key = 0; next = 0 }; y = record { place = 0; key = 0; next = 0 } } ⌝ }
+{
+    let none = Spot {
+        place: 0,
+        key: 0,
+        next: 0,
+    };
+    Pair {
+        one: m,
+        two: m,
+        x: none,
+        y: none,
+    }
 }
 
 // Two mentions at their own postings, with a few keys of each in its part of the room: a document that enters the table ends the walk.
@@ -175,7 +195,16 @@ pub fn paired(image: &[u8], one: Mention, two: Mention, room: &mut [u64]) -> Pai
 }
 
 // The two mentions above rank j, over their documents: as `alone`. Each has the keys of its next postings in its own part of the room.
-pub fn together(image: &[u8], p: Pair, room: &mut [u64], bar: u32, floor: u32, limit: u32, past: u32, count: u32) -> Drawn
+pub fn together(
+    image: &[u8],
+    p: Pair,
+    room: &mut [u64],
+    bar: u32,
+    floor: u32,
+    limit: u32,
+    past: u32,
+    count: u32,
+) -> Drawn
     requires { ⌜ SomePair (now image) (p .one) (p .two) (p .x) (p .y) (now room) bar floor limit past count ⌝ }
     ensures { λ r. ⌜ EachPair (now (image .entry)) (p .one) (p .two) (p .x) (p .y) (now (room .entry)) bar floor limit past count (r .pair .one) (r .pair .two) (r .pair .x) (r .pair .y) (now (room .exit)) (r .past) (r .tally) ⌝ }
 {
@@ -190,7 +219,11 @@ pub fn together(image: &[u8], p: Pair, room: &mut [u64], bar: u32, floor: u32, l
         let here = (top / 4096) as u32;
         let first = x.key < y.key;
         let second = !first;
-        t = mentions::scored(visit::carried(t, past, here), weigh(first, a.weight, b.weight), (top % 256) as u32);
+        t = mentions::scored(
+            visit::carried(t, past, here),
+            weigh(first, a.weight, b.weight),
+            (top % 256) as u32,
+        );
         past = here;
         let old = top;
         x = passed(first, x, room);

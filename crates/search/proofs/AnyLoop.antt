@@ -1,14 +1,12 @@
 -- A query of mode 0 or 1 in its loop: what holds before each walk, whichever query's mentions the array is in order.
 use mathlib.Core.Path.{_≡_, refl, sym, ap, subst, _∙_}
 use mathlib.Core.Bool.{Bool, true, false, cond}
-use mathlib.Core.List.{List, [], _∷_, _++_, map}
-use Prim.Native.Nat.{ℕ, zero, suc, _+_, _-_, _*_, _≤_, _<_}
+use mathlib.Core.List.{List, [], _++_, map}
+use Prim.Native.Nat.{ℕ, zero, suc, _-_, _≤_, _<_}
 use native.Mathlib.Omega.{arith}
 use lib.ListN.{length, take, drop, getD, length-map, length-take, length-drop, length-append}
 use lib.Seq.{getD-take, take-nil}
 use Rattle.lists.specs.Each.{Each, each-from, each-more, each-at}
-use Rattle.meaning.specs.declared.Mode.{Mode}
-use Rattle.meaning.specs.declared.Mode.the-variants.{Plain, Pruned}
 use Rattle.meaning.specs.declared.Row.{Row}
 use Rattle.meaning.specs.Image.{indexOf}
 use Rattle.meaning.specs.Place.{spent}
@@ -32,8 +30,8 @@ use Rattle.ranking.specs.Rows.{rowsOf}
 use Rattle.ranking.specs.RowsLaws.{stands-under}
 use Rattle.mentions.specs.declared.Mention.{Mention}
 use Rattle.mentions.specs.Mentions.{none, meant, Weighed, byCeiling, Sums, Rising, asideOf, leastOf}
-use Rattle.mentions.specs.MeantLaws.{order-front, by-ceiling-meant, by-ceiling-each, by-ceiling-length, sums-meant, sums-rise, aside-meant}
-use Rattle.visit.specs.Stand.{Stands, Fair, Placed, nextAt, docOf}
+use Rattle.mentions.specs.MeantLaws.{order-front, by-ceiling-meant, by-ceiling-each, by-ceiling-length, sums-meant, aside-meant}
+use Rattle.visit.specs.Stand.{Stands, nextAt, docOf}
 use Rattle.visit.specs.StandLaws.{fair-ceiling}
 use Rattle.visit.specs.NextLaws.{doc-none, doc-some, next-doc}
 use Rattle.visit.specs.Walk.{meantOf, Starts, Leaves, runOf, runBy}

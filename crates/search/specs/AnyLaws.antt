@@ -1,22 +1,19 @@
 -- A query of mode 0 or 1 between two walks: what it has reached, that a walk may start from there, and what its end gives.
 use mathlib.Core.Path.{_≡_, refl, sym, ap, subst, _∙_}
-use mathlib.Core.Bool.{Bool, true, false, cond}
-use mathlib.Core.List.{List, [], _∷_}
+use mathlib.Core.List.{List}
 use Prim.Native.Nat.{ℕ, zero, suc, _+_, _-_, _*_, _≤_, _<_}
 use native.Mathlib.Omega.{arith}
 use native.Mathlib.Nat.{mul-le-mul}
-use lib.Dec.{eqb}
-use lib.ListN.{length, take, drop, getD, length-drop}
+use lib.ListN.{length, drop, getD, length-drop}
 use lib.Seq.{getD-drop}
-use Rattle.lists.specs.Tests.{by-test, by-order}
+use Rattle.lists.specs.Tests.{by-order}
 use Rattle.meaning.specs.declared.Mode.{Mode}
 use Rattle.meaning.specs.declared.Mode.the-variants.{Plain, Pruned, All}
 use Rattle.meaning.specs.declared.Row.{Row}
 use Rattle.meaning.specs.Image.{indexOf}
 use Rattle.meaning.specs.Score as sc
-use Rattle.meaning.specs.Rank.{insert, ranked, kth, bar}
+use Rattle.meaning.specs.Rank.{kth, bar}
 use Rattle.meaning.specs.Cost.{Tally, noMention, ordered, P, visitAt}
-use Rattle.meaning.specs.Place.{spent}
 use Rattle.meaning.specs.Answer.{costAt}
 use Rattle.meaning.specs.AsideLaws.{aside-up}
 use Rattle.meaning.specs.TableLaws.{bar-table, bar-up}
@@ -30,8 +27,7 @@ use Rattle.runs.specs.RunLaws.{run-skips, run-later}
 use Rattle.runs.specs.Reached.{Reached, Ended, run-keeps}
 use Rattle.runs.specs.AnyVisits.{asideIn, aside-in-le, any-visits}
 use Rattle.mentions.specs.declared.Mention.{Mention}
-use Rattle.mentions.specs.Mentions.{none, meant}
-use Rattle.visit.specs.Stand.{docOf, nextAt, Placed, Lags, Stands}
+use Rattle.visit.specs.Stand.{docOf, nextAt, Placed}
 use Rattle.visit.specs.NextLaws.{next-none, next-under, NextDoc, next-doc}
 use Rattle.visit.specs.StandLaws.{stands-past, stands-later}
 use Rattle.visit.specs.PlacedLaws.{placed-meant, placed-rises}

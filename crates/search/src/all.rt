@@ -2,8 +2,6 @@
 // walk anew after it.
 use mentions::Mention;
 use runs::Turn;
-ghost use mathlib.Core.Path.{_≡_};
-ghost use Prim.Native.Nat.{ℕ, _≤_, _<_};
 ghost use Rattle.meaning.specs.declared.Mode.the-variants.{All};
 ghost use Rattle.visit.specs.Walk.{meantOf};
 ghost use Rattle.search.specs.Serve.{Served, FoundBy};

@@ -2,8 +2,7 @@
 // postings".
 use cursor::Cursor;
 use mentions::Mention;
-ghost use mathlib.Core.Path.{_≡_};
-ghost use Prim.Native.Nat.{ℕ, _+_, _*_, _≤_, _<_};
+ghost use Prim.Native.Nat.{_+_, _*_, _≤_, _<_};
 ghost use lib.ListN.{length};
 ghost use Rattle.meaning.specs.Image.{Accepted, indexOf};
 ghost use Rattle.search.specs.Gather.{Begins, Pairs, Gathered};

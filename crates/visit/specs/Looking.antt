@@ -9,7 +9,7 @@ use lib.Seq.{set-getD, getD-set-other}
 use mir.Syntax.{w32}
 use mir.Val.{Fits}
 use Rattle.meaning.specs.Score as sc
-use Rattle.meaning.specs.Cost.{P, noMention, lookUps, visitAt}
+use Rattle.meaning.specs.Cost.{noMention, lookUps, visitAt}
 use Rattle.meaning.specs.PruneLaws.{look-end, look-drop, look-on, visited}
 use Rattle.mentions.specs.declared.Mention.{Mention}
 use Rattle.mentions.specs.declared.Tally.{Tally}

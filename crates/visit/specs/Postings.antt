@@ -1,6 +1,6 @@
 -- The loop over postings: each is scored for its document, and those of a document come one after the other, by mention. A document whose sum
 -- stays at the bar less P(j) is dropped when the next one comes.
-use mathlib.Core.Path.{_≡_, refl, sym, ap, subst, _∙_}
+use mathlib.Core.Path.{_≡_, sym, _∙_}
 use mathlib.Core.Logic.{_⊎_, inl, inr, ⊎-elim}
 use mathlib.Core.List.{List}
 use Prim.Native.Nat.{ℕ, suc, _+_, _*_, _-_, _≤_, _<_}
@@ -10,14 +10,13 @@ use lib.ListN.{length, getD, set, drop, length-drop, drop-of-length-le}
 use lib.Seq.{getD-drop}
 use borrow.Author.Tests.{eqb-true, eqb-false}
 use Rattle.lists.specs.Tests.{by-test, by-order, by-zero}
-use Rattle.meaning.specs.Image.{indexOf}
 use Rattle.meaning.specs.Score as sc
-use Rattle.meaning.specs.Cost.{P, noMention}
+use Rattle.meaning.specs.Cost.{noMention}
 use Rattle.runs.specs.Run.{Run}
 use Rattle.cursor.specs.Left.{notBelow}
 use Rattle.mentions.specs.declared.Mention.{Mention}
 use Rattle.mentions.specs.declared.Tally.{Tally}
-use Rattle.mentions.specs.Mentions.{none, meant}
+use Rattle.mentions.specs.Mentions.{none}
 use Rattle.visit.specs.Stand.{pastOf, nextAt, Stands, Goes, Placed, Next, SoundFrom}
 use Rattle.visit.specs.Walk.{meantOf}
 use Rattle.visit.specs.NextLaws.{next-under, next-over}

@@ -1,20 +1,18 @@
 -- How a walk starts: with every mention at its first posting, and again where the walk before it left them, some more of them set aside.
-use mathlib.Core.Path.{_≡_, refl, _∙_}
+use mathlib.Core.Path.{_≡_, refl}
 use mathlib.Core.List.{List, [], _∷_, map}
 use Prim.Native.Nat.{ℕ, zero, suc, _+_, _-_, _≤_, _<_}
 use native.Mathlib.Omega.{arith}
 use lib.ListN.{length, getD, take, drop, length-map, length-take, length-drop}
 use lib.Seq.{getD-take, getD-drop}
-use Rattle.meaning.specs.Image.{indexOf}
 use Rattle.meaning.specs.Score as sc
-use Rattle.meaning.specs.Cost.{P, noMention}
+use Rattle.meaning.specs.Cost.{noMention}
 use Rattle.mentions.specs.declared.Mention.{Mention}
 use Rattle.mentions.specs.Mentions.{none, meant, leastOf}
-use Rattle.visit.specs.Stand.{nextAt, docOf, Stands}
-use Rattle.visit.specs.Walk.{meantOf, Starts, Leaves}
-use Rattle.visit.specs.NextLaws.{Rises, next-doc}
+use Rattle.visit.specs.Stand.{nextAt, Stands}
+use Rattle.visit.specs.Walk.{meantOf, Leaves}
 use Rattle.visit.specs.StandLaws.{stands-past}
-use Rattle.visit.specs.PlacedLaws.{placed-meant, placed-rises, stand-next, placed-next}
+use Rattle.visit.specs.PlacedLaws.{placed-meant}
 use Rattle.visit.specs.declared.Visit.{Visit}
 
 -- what the first q of an array mean

@@ -10,7 +10,6 @@ use Rattle.meaning.specs.Score as sc
 use Rattle.meaning.specs.Cost.{P, visitAt}
 use Rattle.meaning.specs.Cost as co
 use Rattle.meaning.specs.PruneLaws.{unvisited, visit-some}
-use Rattle.runs.specs.declared.Turn.{Turn}
 use Rattle.runs.specs.declared.Turn.the-variants.{Finished, Stopped, Entered}
 use Rattle.runs.specs.Run.{Run, runFrom}
 use Rattle.runs.specs.RunLaws.{run-stop, run-enter, run-on, run-skips, run-end}

@@ -3,18 +3,13 @@ use mathlib.Core.Path.{_≡_, refl, sym, ap, subst, _∙_}
 use mathlib.Core.List.{List}
 use Prim.Native.Nat.{ℕ, zero, suc, _+_, _*_, _-_, _/_, _%_, _≤_, _<_}
 use native.Mathlib.Omega.{arith}
-use lib.Dec.{eqb}
 use lib.ListN.{length, getD, set, length-set}
 use lib.Seq.{getD-set-same, getD-set-other}
-use borrow.Author.Tests.{eqb-true, eqb-false}
 use Rattle.lists.specs.Places.{at-place}
 use Rattle.lists.specs.Tests.{by-order}
-use Rattle.meaning.specs.Image.{indexOf}
-use Rattle.contest.specs.Contest.{Pairs, Kept, Lowest, Entered}
+use Rattle.contest.specs.Contest.{Pairs, Entered}
 use Rattle.cursor.specs.declared.Cursor.{Cursor}
-use Rattle.cursor.specs.Sound.{Sound}
 use Rattle.cursor.specs.Steps.{takenAt}
-use Rattle.cursor.specs.StepLaws.{taking}
 use Rattle.mentions.specs.declared.Mention.{Mention}
 use Rattle.mentions.specs.Mentions.{none}
 use Rattle.visit.specs.Stand.{Next, SoundFrom}

@@ -1,6 +1,6 @@
 -- The three ways over the postings above rank j: one mention, two, or any number. Each ends at a document whose postings above rank j are
 -- scored, with the next posting known, and leaves what it reads ahead as it was found.
-use mathlib.Core.Path.{_≡_, refl, sym, ap, _∙_}
+use mathlib.Core.Path.{_≡_, refl, sym, _∙_}
 use mathlib.Core.List.{List}
 use lib.Dec.{eqb}
 use Prim.Native.Nat.{ℕ, _+_, _-_, _/_, _%_, _≤_, _<_, min}
@@ -15,7 +15,6 @@ use Rattle.mentions.specs.declared.Mention.{Mention}
 use Rattle.mentions.specs.declared.Tally.{Tally}
 use Rattle.mentions.specs.Mentions.{none}
 use Rattle.pair.specs.declared.Pair.{Pair}
-use Rattle.pair.specs.declared.Spot.{Spot}
 use Rattle.contest.specs.Contest.{Entered}
 use Rattle.visit.specs.Stand.{Goes, Next}
 use Rattle.visit.specs.Key.{keyOf, key-past}
@@ -24,7 +23,7 @@ use Rattle.walk.specs.KeyLaws.{top-next, top-place, top-rises, keyed-asi
 use Rattle.visit.specs.Walking.{Walking}
 use Rattle.visit.specs.Postings.{Midway, midway-first, midway-sound, some-mention, posting-rises}
 use Rattle.pair.specs.Alone.{Frame, AloneAt, AloneTo, alone-next}
-use Rattle.pair.specs.Pair.{seated, Seats, PairAt, withMs, PairIn, pair-next}
+use Rattle.pair.specs.Pair.{seated, Seats, PairAt, PairIn, pair-next}
 
 -- where a way ends: the document is visited, and the next posting is of a later one
 pub record Come (s : List ℕ) (os : List sc.Mention) (pre : List ℕ) (bar j q budget : ℕ) (run : Run) (from : ℕ) (ms : List Mention) (past : ℕ) (t : Tally) (top : ℕ) : Type 0 where

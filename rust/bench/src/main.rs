@@ -13,7 +13,7 @@ mod tuned;
 use std::process::ExitCode;
 
 const USAGE: &str = "\
-usage: bench                       the table of times
+usage: bench [WORD..]              the table of times, of the sheets whose names hold all these words
        bench --growth              cost against list length, number of terms, k and image size
        bench --callgrind [WORD..]  instructions, of the sheets whose names hold all these words
        bench --one-call EVALUATOR IMAGE NUMBER..
@@ -24,11 +24,11 @@ fn main() -> ExitCode {
     let arguments: Vec<String> = std::env::args().skip(1).collect();
     let words: Vec<&str> = arguments.iter().map(String::as_str).collect();
     let done = match &words[..] {
-        [] => report::times(),
         ["--growth"] => report::growth(),
         ["--callgrind", words @ ..] => report::instructions(words),
         ["--one-call", words @ ..] => report::one_call(words),
         ["--check"] => check::check(),
+        words if !words.iter().any(|word| word.starts_with("--")) => report::times(words),
         _ => Err(USAGE.into()),
     };
     match done {

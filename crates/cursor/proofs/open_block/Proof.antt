@@ -1,5 +1,5 @@
 -- A block's head, out of the one number that it is read as.
-use Prim.Native.Nat.{_+_, _-_, _/_, _%_, _^_}
+use Prim.Native.Nat.{_+_, _/_, _%_, _^_}
 use mathlib.Core.Path.{_≡_, sym, ap}
 use native.Mathlib.Omega.{arith}
 use Rattle.meaning.specs.Layout.{Head, headAt}

@@ -1,5 +1,5 @@
 -- The posting's number, out of the one number that its gap and its impact are read as.
-use Prim.Native.Nat.{_+_, _*_, _/_, _%_, _^_, _<_}
+use Prim.Native.Nat.{_+_, _/_, _%_, _^_, _<_}
 use mathlib.Core.Path.{_≡_, ap}
 use native.Mathlib.Omega.{arith}
 use Rattle.meaning.specs.Image.{indexOf}

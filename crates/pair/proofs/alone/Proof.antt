@@ -1,5 +1,4 @@
 -- `alone`: each turn scores one posting.
-use mathlib.Core.Path.{refl}
 use Prim.Native.Nat.{_-_}
 use native.Mathlib.Omega.{arith}
 use Rattle.visit.specs.Key.{sound-most}

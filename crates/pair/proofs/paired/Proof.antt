@@ -13,7 +13,7 @@ filled-requires-2 : tie.Need-filled-requires-2
 filled-requires-2 c κs = let p = c .before .before .before .before .before .before .before .pre in (p .1, omega arith, omega arith, omega arith, omega arith, c .before .before .before .filled .ensures .0 .long ∙ p .2)
 
 returns : tie.Need-returns
-returns c =     let p = c .before .before .before .before .before .before .before .before .before .before .pre in
+returns c = let p = c .before .before .before .before .before .before .before .before .before .before .pre in
     seats-first (p .0) (p .1) (p .2) (c .before .before .before .before .before .before .filled .ensures .0) (c .before .before .before .before .before .before .filled .ensures .1) (c .before .before .filled2 .ensures .0) (c .before .before .filled2 .ensures .1)
 
 same-length : tie.Need-same-length

@@ -1,5 +1,5 @@
 -- `passed`: one place on, or none.
-use mathlib.Core.Path.{_≡_, refl, _∙_, ap}
+use mathlib.Core.Path.{refl, ap}
 use Prim.Native.Nat.{ℕ, _+_, _≤_}
 use native.Mathlib.Omega.{arith}
 use Rattle.lists.specs.Tests.{by-test}
@@ -28,7 +28,7 @@ shared-slice-read-t10 : tie.Need-shared-slice-read-t10
 shared-slice-read-t10 c = omega (arith, one-at-most (c .before .before .before), c .before .before .before .before .before .pre .0, c .before .before .before .before .before .pre .1)
 
 returns : tie.Need-returns
-returns c =     let x = c .before .before .before .before .before .args .s in
+returns c = let x = c .before .before .before .before .before .args .s in
     record {
       goes = λ e. (ap (λ (n : ℕ). x .place + n) (c .before .before .before .pick .ensures .0 e), c .before .pick2 .ensures .0 e);
       stays = λ e. (omega (arith, c .before .before .before .pick .ensures .1 e), c .before .pick2 .ensures .1 e);

@@ -1,12 +1,11 @@
 -- `stood`: the numbers of a cursor that is further in its block.
-use mathlib.Core.Path.{_≡_, refl, ap}
-use Prim.Native.Nat.{ℕ, _*_, _≤_}
+use mathlib.Core.Path.{refl}
+use Prim.Native.Nat.{_*_, _≤_}
 use native.Mathlib.Omega.{arith}
 use native.Mathlib.Nat.{mul-le-mul}
-use borrow.Author.Needs.{needs}
 use Rattle.visit.specs.Key.{sound-most}
 use Rattle.pair.specs.RoomLaws.{further-sound}
-use Rattle.pair.specs.Pair.{seated, seated-is}
+use Rattle.pair.specs.Pair.{seated-is}
 use Rattle.pair.proofs.stood.Statement.{statement}
 use Rattle.pair.proofs.stood.Tie as tie
 

@@ -1,9 +1,8 @@
 -- `together`: each turn scores one posting, of the first mention or of the second; where that one's part of the room is read out it is filled anew.
-use mathlib.Core.Path.{_≡_, refl, sym, ap, _∙_}
+use mathlib.Core.Path.{_≡_, sym, _∙_}
 use mathlib.Core.Logic.{⊎-elim}
-use Prim.Native.Nat.{ℕ, _+_, _-_, _/_, _≤_, _<_, min}
+use Prim.Native.Nat.{ℕ, _-_, _/_, _≤_, _<_, min}
 use native.Mathlib.Omega.{arith}
-use borrow.Author.Needs.{needs}
 use Rattle.pair.specs.Alone.{Frame}
 use Rattle.pair.specs.Pair.{PairAt, withMs, PairIn, Changed, pair-first, pair-visit, pair-cast, pair-fits, x-room, y-room, pair-scores, changed-in, changed-on, x-place, x-stood, x-stands, changed-first, y-place, y-stood, y-stands, changed-second}
 use Rattle.pair.proofs.together.Statement.{statement}
@@ -41,17 +40,17 @@ loop-holds : tie.Need-loop-holds Inv-loop μ-loop
 loop-holds c = (λ f k. pair-first k, c .lower .ensures)
 
 cast-goes-on : tie.Need-cast-goes-on Inv-loop μ-loop
-cast-goes-on c =     let s = c .before .before .before .before .before .before .before .before in
+cast-goes-on c = let s = c .before .before .before .before .before .before .before .before in
     let k = c .loop .inv .0 (s .pre .0) (s .pre .1) .at in
     omega (arith, pair-cast k (c .loop .top) (c .loop .inv .1))
 
 cast-here : tie.Need-cast-here Inv-loop μ-loop
-cast-here c =     let s = c .before .before .before .before .before .before .before .before .before .before in
+cast-here c = let s = c .before .before .before .before .before .before .before .before .before .before in
     let k = c .before .before .loop .inv .0 (s .pre .0) (s .pre .1) .at in
     omega (arith, pair-cast k (c .before .before .loop .top) (c .before .before .loop .inv .1))
 
 goes-on-requires : tie.Need-goes-on-requires Inv-loop μ-loop
-goes-on-requires c κs =     let s = c .before .before .before .before .before .before .before .before in
+goes-on-requires c κs = let s = c .before .before .before .before .before .before .before .before in
     let k = c .loop .inv .0 (s .pre .0) (s .pre .1) .at in
     pair-fits k
 
@@ -59,69 +58,69 @@ cast-scored : tie.Need-cast-scored Inv-loop μ-loop
 cast-scored c = omega arith
 
 scored-requires : tie.Need-scored-requires Inv-loop μ-loop
-scored-requires c κs =     let s = c .before .before .before .before .before .before .before .before .before .before .before .before .before .before in
+scored-requires c κs = let s = c .before .before .before .before .before .before .before .before .before .before .before .before .before .before in
     let k = c .before .before .before .before .before .before .loop .inv .0 (s .pre .0) (s .pre .1) .at in
     let m = pair-visit k (c .before .before .before .before .before .before .loop .top) (c .before .before .before .before .before .before .loop .inv .1) (c .before .before .before .before .before .goes-on .ensures .0 (c .before .before .before .before .if1 .taken)) (c .before .carried .ensures) in
     rw (c .before .before .before .before .before .before .loop .inv .1) (pair-scores k m (c .weigh .ensures))
 
 passed-requires : tie.Need-passed-requires Inv-loop μ-loop
-passed-requires c κs =     let s = c .before .before .before .before .before .before .before .before .before .before .before .before .before .before .before .before in
+passed-requires c κs = let s = c .before .before .before .before .before .before .before .before .before .before .before .before .before .before .before .before in
     let k = c .before .before .before .before .before .before .before .before .loop .inv .0 (s .pre .0) (s .pre .1) .at in
     (x-room k, k .long)
 
 passed-requires-2 : tie.Need-passed-requires-2 Inv-loop μ-loop
-passed-requires-2 c κs =     let s = c .before .before .before .before .before .before .before .before .before .before .before .before .before .before .before .before .before .before in
+passed-requires-2 c κs = let s = c .before .before .before .before .before .before .before .before .before .before .before .before .before .before .before .before .before .before in
     let k = c .before .before .before .before .before .before .before .before .before .before .loop .inv .0 (s .pre .0) (s .pre .1) .at in
     (y-room k, k .long)
 
 sub-stood : tie.Need-sub-stood Inv-loop μ-loop
-sub-stood c =     let s = c .before .before .before .before .before .before .before .before .before .before .before .before .before .before .before .before .before .before .before .before .before .before .before in
+sub-stood c = let s = c .before .before .before .before .before .before .before .before .before .before .before .before .before .before .before .before .before .before .before .before .before .before .before in
     let k = c .before .before .before .before .before .before .before .before .before .before .before .before .before .before .before .loop .inv .0 (s .pre .0) (s .pre .1) .at in
     let m = pair-visit k (c .before .before .before .before .before .before .before .before .before .before .before .before .before .before .before .loop .top) (c .before .before .before .before .before .before .before .before .before .before .before .before .before .before .before .loop .inv .1) (c .before .before .before .before .before .before .before .before .before .before .before .before .before .before .goes-on .ensures .0 (c .before .before .before .before .before .before .before .before .before .before .before .before .before .if1 .taken)) (c .before .before .before .before .before .before .before .before .before .before .carried .ensures) in
     x-place k m (c .before .before .before .before .before .before .before .before .before .weigh .ensures) (rw (c .before .before .before .before .before .before .before .before .before .before .before .before .before .before .before .loop .inv .1) at (c .before .before .before .before .before .before .before .before .scored .ensures)) (c .before .before .before .before .before .before .passed .ensures) (c .before .before .before .before .passed2 .ensures) (c .before .if3 .taken)
 
 stood-requires : tie.Need-stood-requires Inv-loop μ-loop
-stood-requires c κs =     let s = c .before .before .before .before .before .before .before .before .before .before .before .before .before .before .before .before .before .before .before .before .before .before .before in
+stood-requires c κs = let s = c .before .before .before .before .before .before .before .before .before .before .before .before .before .before .before .before .before .before .before .before .before .before .before in
     let k = c .before .before .before .before .before .before .before .before .before .before .before .before .before .before .before .loop .inv .0 (s .pre .0) (s .pre .1) .at in
     let m = pair-visit k (c .before .before .before .before .before .before .before .before .before .before .before .before .before .before .before .loop .top) (c .before .before .before .before .before .before .before .before .before .before .before .before .before .before .before .loop .inv .1) (c .before .before .before .before .before .before .before .before .before .before .before .before .before .before .goes-on .ensures .0 (c .before .before .before .before .before .before .before .before .before .before .before .before .before .if1 .taken)) (c .before .before .before .before .before .before .before .before .before .before .carried .ensures) in
     rw (c .before .before .before .before .before .before .before .before .before .before .before .before .before .before .before .loop .inv .1) (x-stood k m (c .before .before .before .before .before .before .before .before .before .weigh .ensures) (rw (c .before .before .before .before .before .before .before .before .before .before .before .before .before .before .before .loop .inv .1) at (c .before .before .before .before .before .before .before .before .scored .ensures)) (c .before .before .before .before .before .before .passed .ensures) (c .before .before .before .before .passed2 .ensures) (c .before .if3 .taken))
 
 went-requires : tie.Need-went-requires Inv-loop μ-loop
-went-requires c κs =     let s = c .before .before .before .before .before .before .before .before .before .before .before .before .before .before .before .before .before .before .before .before .before .before .before .before in
+went-requires c κs = let s = c .before .before .before .before .before .before .before .before .before .before .before .before .before .before .before .before .before .before .before .before .before .before .before .before in
     let k = c .before .before .before .before .before .before .before .before .before .before .before .before .before .before .before .before .loop .inv .0 (s .pre .0) (s .pre .1) .at in
     let m = pair-visit k (c .before .before .before .before .before .before .before .before .before .before .before .before .before .before .before .before .loop .top) (c .before .before .before .before .before .before .before .before .before .before .before .before .before .before .before .before .loop .inv .1) (c .before .before .before .before .before .before .before .before .before .before .before .before .before .before .before .goes-on .ensures .0 (c .before .before .before .before .before .before .before .before .before .before .before .before .before .before .if1 .taken)) (c .before .before .before .before .before .before .before .before .before .before .before .carried .ensures) in
     rw (c .stood .ensures) (x-stands k m (c .before .before .before .before .before .before .before .before .before .before .weigh .ensures) (rw (c .before .before .before .before .before .before .before .before .before .before .before .before .before .before .before .before .loop .inv .1) at (c .before .before .before .before .before .before .before .before .before .scored .ensures)) (c .before .before .before .before .before .before .before .passed .ensures) (c .before .before .before .before .before .passed2 .ensures) (c .before .before .if3 .taken))
 
 filled-requires : tie.Need-filled-requires Inv-loop μ-loop
-filled-requires c κs =     let s = c .before .before .before .before .before .before .before .before .before .before .before .before .before .before .before .before .before .before .before .before .before .before .before .before .before .before in
+filled-requires c κs = let s = c .before .before .before .before .before .before .before .before .before .before .before .before .before .before .before .before .before .before .before .before .before .before .before .before .before .before in
     let k = c .before .before .before .before .before .before .before .before .before .before .before .before .before .before .before .before .before .before .loop .inv .0 (s .pre .0) (s .pre .1) .at in
     (c .before .went .ensures .stands .sound, omega arith, omega arith, omega arith, omega arith, k .long)
 
 sub-stood-2 : tie.Need-sub-stood-2 Inv-loop μ-loop
-sub-stood-2 c =     let s = c .before .before .before .before .before .before .before .before .before .before .before .before .before .before .before .before .before .before .before .before .before .before .before in
+sub-stood-2 c = let s = c .before .before .before .before .before .before .before .before .before .before .before .before .before .before .before .before .before .before .before .before .before .before .before in
     let k = c .before .before .before .before .before .before .before .before .before .before .before .before .before .before .before .loop .inv .0 (s .pre .0) (s .pre .1) .at in
     let m = pair-visit k (c .before .before .before .before .before .before .before .before .before .before .before .before .before .before .before .loop .top) (c .before .before .before .before .before .before .before .before .before .before .before .before .before .before .before .loop .inv .1) (c .before .before .before .before .before .before .before .before .before .before .before .before .before .before .goes-on .ensures .0 (c .before .before .before .before .before .before .before .before .before .before .before .before .before .if1 .taken)) (c .before .before .before .before .before .before .before .before .before .before .carried .ensures) in
     y-place k m (c .before .before .before .before .before .before .before .before .before .weigh .ensures) (rw (c .before .before .before .before .before .before .before .before .before .before .before .before .before .before .before .loop .inv .1) at (c .before .before .before .before .before .before .before .before .scored .ensures)) (c .before .before .before .before .before .before .passed .ensures) (c .before .before .before .before .passed2 .ensures) (c .before .if3 .left)
 
 stood-requires-2 : tie.Need-stood-requires-2 Inv-loop μ-loop
-stood-requires-2 c κs =     let s = c .before .before .before .before .before .before .before .before .before .before .before .before .before .before .before .before .before .before .before .before .before .before .before in
+stood-requires-2 c κs = let s = c .before .before .before .before .before .before .before .before .before .before .before .before .before .before .before .before .before .before .before .before .before .before .before in
     let k = c .before .before .before .before .before .before .before .before .before .before .before .before .before .before .before .loop .inv .0 (s .pre .0) (s .pre .1) .at in
     let m = pair-visit k (c .before .before .before .before .before .before .before .before .before .before .before .before .before .before .before .loop .top) (c .before .before .before .before .before .before .before .before .before .before .before .before .before .before .before .loop .inv .1) (c .before .before .before .before .before .before .before .before .before .before .before .before .before .before .goes-on .ensures .0 (c .before .before .before .before .before .before .before .before .before .before .before .before .before .if1 .taken)) (c .before .before .before .before .before .before .before .before .before .before .carried .ensures) in
     rw (c .before .before .before .before .before .before .before .before .before .before .before .before .before .before .before .loop .inv .1) (y-stood k m (c .before .before .before .before .before .before .before .before .before .weigh .ensures) (rw (c .before .before .before .before .before .before .before .before .before .before .before .before .before .before .before .loop .inv .1) at (c .before .before .before .before .before .before .before .before .scored .ensures)) (c .before .before .before .before .before .before .passed .ensures) (c .before .before .before .before .passed2 .ensures) (c .before .if3 .left))
 
 went-requires-2 : tie.Need-went-requires-2 Inv-loop μ-loop
-went-requires-2 c κs =     let s = c .before .before .before .before .before .before .before .before .before .before .before .before .before .before .before .before .before .before .before .before .before .before .before .before in
+went-requires-2 c κs = let s = c .before .before .before .before .before .before .before .before .before .before .before .before .before .before .before .before .before .before .before .before .before .before .before .before in
     let k = c .before .before .before .before .before .before .before .before .before .before .before .before .before .before .before .before .loop .inv .0 (s .pre .0) (s .pre .1) .at in
     let m = pair-visit k (c .before .before .before .before .before .before .before .before .before .before .before .before .before .before .before .before .loop .top) (c .before .before .before .before .before .before .before .before .before .before .before .before .before .before .before .before .loop .inv .1) (c .before .before .before .before .before .before .before .before .before .before .before .before .before .before .before .goes-on .ensures .0 (c .before .before .before .before .before .before .before .before .before .before .before .before .before .before .if1 .taken)) (c .before .before .before .before .before .before .before .before .before .before .before .carried .ensures) in
     rw (c .stood2 .ensures) (y-stands k m (c .before .before .before .before .before .before .before .before .before .before .weigh .ensures) (rw (c .before .before .before .before .before .before .before .before .before .before .before .before .before .before .before .before .loop .inv .1) at (c .before .before .before .before .before .before .before .before .before .scored .ensures)) (c .before .before .before .before .before .before .before .passed .ensures) (c .before .before .before .before .before .passed2 .ensures) (c .before .before .if3 .left))
 
 filled-requires-2 : tie.Need-filled-requires-2 Inv-loop μ-loop
-filled-requires-2 c κs =     let s = c .before .before .before .before .before .before .before .before .before .before .before .before .before .before .before .before .before .before .before .before .before .before .before .before .before .before in
+filled-requires-2 c κs = let s = c .before .before .before .before .before .before .before .before .before .before .before .before .before .before .before .before .before .before .before .before .before .before .before .before .before .before in
     let k = c .before .before .before .before .before .before .before .before .before .before .before .before .before .before .before .before .before .before .loop .inv .0 (s .pre .0) (s .pre .1) .at in
     (c .before .went2 .ensures .stands .sound, omega arith, omega arith, omega arith, omega arith, k .long)
 
 loop-less-2 : tie.Need-loop-less-2 Inv-loop μ-loop
-loop-less-2 c =     let s = c .before .before .before .before .before .before .before .before .before .before .before .before .before .before .before .before .before .before .before .before .before in
+loop-less-2 c = let s = c .before .before .before .before .before .before .before .before .before .before .before .before .before .before .before .before .before .before .before .before .before in
     let k = c .before .before .before .before .before .before .before .before .before .before .before .before .before .loop .inv .0 (s .pre .0) (s .pre .1) .at in
     let m = pair-visit k (c .before .before .before .before .before .before .before .before .before .before .before .before .before .loop .top) (c .before .before .before .before .before .before .before .before .before .before .before .before .before .loop .inv .1) (c .before .before .before .before .before .before .before .before .before .before .before .before .goes-on .ensures .0 (c .before .before .before .before .before .before .before .before .before .before .before .if1 .taken)) (c .before .before .before .before .before .before .before .before .carried .ensures) in
     let some : 0 < min (c .before .before .before .before .passed .result .key) (c .before .before .passed2 .result .key) = rw (c .before .lower2 .ensures) at (not-zero (c .before .lower2 .result) (c .if2 .left)) in
@@ -129,11 +128,13 @@ loop-less-2 c =     let s = c .before .before .before .before .before .before .b
     falls-up (rw (c .before .before .before .before .before .before .before .before .before .before .before .before .before .loop .inv .1, c .before .lower2 .ensures) (c′ .up)) (pair-cast k (c .before .before .before .before .before .before .before .before .before .before .before .before .before .loop .top) (c .before .before .before .before .before .before .before .before .before .before .before .before .before .loop .inv .1))
 
 loop-again-2 : tie.Need-loop-again-2 Inv-loop μ-loop
-loop-again-2 c =     let some : 0 < min (c .before .before .before .before .passed .result .key) (c .before .before .passed2 .result .key) = rw (c .before .lower2 .ensures) at (not-zero (c .before .lower2 .result) (c .if2 .left)) in
-    (λ f k₀.
-    let w = c .before .before .before .before .before .before .before .before .before .before .before .before .before .loop .inv .0 f k₀ in
-    let m = pair-visit (w .at) (c .before .before .before .before .before .before .before .before .before .before .before .before .before .loop .top) (c .before .before .before .before .before .before .before .before .before .before .before .before .before .loop .inv .1) (c .before .before .before .before .before .before .before .before .before .before .before .before .goes-on .ensures .0 (c .before .before .before .before .before .before .before .before .before .before .before .if1 .taken)) (c .before .before .before .before .before .before .before .before .carried .ensures) in
-    rw (c .before .before .before .before .before .before .before .before .before .before .before .before .before .loop .inv .1) (changed-in w (changed-on (w .at) m (c .before .before .before .before .before .before .before .weigh .ensures) (rw (c .before .before .before .before .before .before .before .before .before .before .before .before .before .loop .inv .1) at (c .before .before .before .before .before .before .scored .ensures)) (c .before .before .before .before .passed .ensures) (c .before .before .passed2 .ensures) some)), c .before .lower2 .ensures)
+loop-again-2 c = let some : 0 < min (c .before .before .before .before .passed .result .key) (c .before .before .passed2 .result .key) = rw (c .before .lower2 .ensures) at (not-zero (c .before .lower2 .result) (c .if2 .left)) in (
+  λ f k₀.
+      let w = c .before .before .before .before .before .before .before .before .before .before .before .before .before .loop .inv .0 f k₀ in
+      let m = pair-visit (w .at) (c .before .before .before .before .before .before .before .before .before .before .before .before .before .loop .top) (c .before .before .before .before .before .before .before .before .before .before .before .before .before .loop .inv .1) (c .before .before .before .before .before .before .before .before .before .before .before .before .goes-on .ensures .0 (c .before .before .before .before .before .before .before .before .before .before .before .if1 .taken)) (c .before .before .before .before .before .before .before .before .carried .ensures) in
+      rw (c .before .before .before .before .before .before .before .before .before .before .before .before .before .loop .inv .1) (changed-in w (changed-on (w .at) m (c .before .before .before .before .before .before .before .weigh .ensures) (rw (c .before .before .before .before .before .before .before .before .before .before .before .before .before .loop .inv .1) at (c .before .before .before .before .before .before .scored .ensures)) (c .before .before .before .before .passed .ensures) (c .before .before .passed2 .ensures) some)),
+  c .before .lower2 .ensures,
+)
 
 -- the room filled anew, for the first mention or for the second
 changed : (c : tie.Joined3 Inv-loop μ-loop) → let s = c .before .before .before .before .before .before .before .before .before .before .before .before .before .before .before .before .before .before .before .before .before .before in let l = c .before .before .before .before .before .before .before .before .before .before .before .before .before .before .loop in
@@ -150,17 +151,20 @@ changed c f k₀ w =
     (c .if3 .came)
 
 loop-less : tie.Need-loop-less Inv-loop μ-loop
-loop-less c =     let s = c .before .before .before .before .before .before .before .before .before .before .before .before .before .before .before .before .before .before .before .before .before .before .before in
+loop-less c = let s = c .before .before .before .before .before .before .before .before .before .before .before .before .before .before .before .before .before .before .before .before .before .before .before in
     let w = c .before .before .before .before .before .before .before .before .before .before .before .before .before .before .before .loop .inv .0 (s .pre .0) (s .pre .1) in
     falls-up (rw (c .before .before .before .before .before .before .before .before .before .before .before .before .before .before .before .loop .inv .1, c .lower3 .ensures) (changed (c .before) (s .pre .0) (s .pre .1) w .up)) (pair-cast (w .at) (c .before .before .before .before .before .before .before .before .before .before .before .before .before .before .before .loop .top) (c .before .before .before .before .before .before .before .before .before .before .before .before .before .before .before .loop .inv .1))
 
 loop-again : tie.Need-loop-again Inv-loop μ-loop
-loop-again c =     (λ f k₀.
-    let w = c .before .before .before .before .before .before .before .before .before .before .before .before .before .before .before .loop .inv .0 f k₀ in
-    rw (c .before .before .before .before .before .before .before .before .before .before .before .before .before .before .before .loop .inv .1) (changed-in w (changed (c .before) f k₀ w)), c .lower3 .ensures)
+loop-again c = (
+  λ f k₀.
+      let w = c .before .before .before .before .before .before .before .before .before .before .before .before .before .before .before .loop .inv .0 f k₀ in
+      rw (c .before .before .before .before .before .before .before .before .before .before .before .before .before .before .before .loop .inv .1) (changed-in w (changed (c .before) f k₀ w)),
+  c .lower3 .ensures,
+)
 
 same-length : tie.Need-same-length Inv-loop μ-loop
-same-length c =     let s = c .before .before .before .before .before .before .before .before .before .before in
+same-length c = let s = c .before .before .before .before .before .before .before .before .before .before in
     let k = c .before .before .loop .inv .0 (s .pre .0) (s .pre .1) .at in
     k .long ∙ sym (s .pre .1 .long)
 

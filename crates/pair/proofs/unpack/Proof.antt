@@ -1,5 +1,4 @@
 -- `unpack`: each turn puts in one key.
-use mathlib.Core.Path.{_∙_}
 use Prim.Native.Nat.{_+_, _-_, _≤_}
 use native.Mathlib.Omega.{arith}
 use lib.ListN.{length, length-set}
@@ -27,7 +26,7 @@ slice-write-room : tie.Need-slice-write-room Inv-loop μ-loop
 slice-write-room c = omega (arith, c .before .before .before .pre .2, c .before .before .before .pre .5)
 
 loop-holds : tie.Need-loop-holds Inv-loop μ-loop
-loop-holds c =     let s = c .before .before .before in
+loop-holds c = let s = c .before .before .before in
     let room = s .args .room .now in
     (filling-first room (omega (arith, s .pre .2, s .pre .5)) (c .key .ensures), omega (arith, s .pre .2, s .pre .5, length-set room (s .args .base) (c .key .result)))
 

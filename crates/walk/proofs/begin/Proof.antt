@@ -1,11 +1,7 @@
 -- `begin`: each turn enters one mention.
 use mathlib.Core.Path.{_∙_, sym}
-use Prim.Native.Nat.{ℕ, _+_, _-_, _*_, _≤_, _<_}
+use Prim.Native.Nat.{_-_, _≤_}
 use native.Mathlib.Omega.{arith}
-use lib.ListN.{length-set}
-use borrow.Author.Needs.{needs}
-use mir.Syntax.{w64}
-use mir.Val.{Fits}
 use Rattle.walk.specs.Keys.{KeyedTo}
 use Rattle.walk.specs.KeyLaws.{blank-keyed, keyed-more, keyed-all}
 use Rattle.walk.proofs.begin.Statement.{statement}

@@ -5,7 +5,7 @@ use native.Mathlib.Omega.{arith}
 use borrow.Author.Needs.{needs}
 use Rattle.cursor.specs.declared.Cursor.{Cursor}
 use Rattle.cursor.specs.Steps.{takenAt}
-use Rattle.visit.specs.Key.{keyOf, key-past, key-impact, taken-current}
+use Rattle.visit.specs.Key.{keyOf, key-past, taken-current}
 use Rattle.walk.proofs.gone.Statement.{statement}
 use Rattle.walk.proofs.gone.Tie as tie
 

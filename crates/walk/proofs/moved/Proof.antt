@@ -1,7 +1,6 @@
 -- `moved`: the posting after the current one, in its block.
 use mathlib.Core.Path.{refl}
 use native.Mathlib.Omega.{arith}
-use borrow.Author.Needs.{needs}
 use Rattle.visit.specs.StandLaws.{goes-taken}
 use Rattle.visit.specs.Key.{taken-current}
 use Rattle.walk.proofs.moved.Statement.{statement}

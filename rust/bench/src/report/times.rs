@@ -28,9 +28,13 @@ const MODE_TARGETS: [f64; 3] = [1.2, 1.2, 1.25];
 /// Milliseconds of each evaluator.
 type Cost = [f64; COUNT];
 
-/// Measures everything; the error says where answers differ.
-pub fn times() -> Result<String, String> {
-    let Workload { collection, sheets } = Workload::full();
+/// Measures the sheets whose names hold all these words; the error says where answers differ.
+pub fn times(words: &[&str]) -> Result<String, String> {
+    let Workload { collection, mut sheets } = Workload::full();
+    sheets.retain(|sheet| words.iter().all(|word| sheet.name.contains(word)));
+    if sheets.is_empty() {
+        return Err(format!("no sheet's name holds {words:?}"));
+    }
     eprintln!("making the image");
     let image = collection.image();
     let mut meter = Meter::new(&image);
@@ -109,12 +113,13 @@ fn targets(sheets: &[Sheet], measured: &[Measured], judging: &Cost) -> String {
     let costs = || sheets.iter().zip(measured).map(|(sheet, measured)| (sheet.mode, alone(measured, judging)));
     let largest = |mode: u32| {
         let rows = costs().filter(|row| row.0 == Some(mode));
-        rows.map(|(_, cost)| cost[FINDER] / cost[TUNED]).fold(0.0, f64::max)
+        rows.map(|(_, cost)| cost[FINDER] / cost[TUNED]).reduce(f64::max)
     };
     let to_plain = costs().map(|(_, cost)| cost[FINDER] / cost[PLAIN]).fold(judging[FINDER] / judging[PLAIN], f64::max);
     let mut lines = vec![target("judging, finder to tuned", judging[FINDER] / judging[TUNED], JUDGING_TARGET)];
     for (mode, &most) in MODE_TARGETS.iter().enumerate() {
-        lines.push(target(&format!("mode {mode}, finder to tuned, the largest"), largest(mode as u32), most));
+        let ratio = largest(mode as u32);
+        lines.extend(ratio.map(|ratio| target(&format!("mode {mode}, finder to tuned, the largest"), ratio, most)));
     }
     lines.push(target("all rows, finder to plain, the largest", to_plain, 1.0));
     lines.join("\n")

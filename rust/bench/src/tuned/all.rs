@@ -1,4 +1,5 @@
-//! Mode 2: the shortest list leads, block by block, and its documents are looked up in the others, shorter ones first.
+//! Mode 2 with two mentions or more: the shortest list leads, block by block, and its documents are looked up in the
+//! others, shorter ones first.
 
 use super::judge::Judged;
 use super::list::{List, Scan, Seeker};

@@ -1,5 +1,6 @@
-//! Modes 0 and 1. Mentions are numbered by falling ceiling, so that those set aside are the last; the others are
-//! merged. A document whose sum over the merged ones stays at the limit is dropped before any look-up.
+//! Modes 0 and 1, and mode 2 with one mention, which is mode 0's. Mentions are numbered by falling ceiling, so that
+//! those set aside are the last; the others are merged. A document whose sum over the merged ones stays at the limit is
+//! dropped before any look-up.
 
 use super::judge::Judged;
 use super::list::{List, Seeker};

@@ -31,8 +31,8 @@ pub fn answer(image: &[u8], sheet: &[u32], row: &mut [u32]) -> Outcome {
     for query in &queries {
         let end = start + query.stretch();
         let stretch = &mut row[start..end];
-        match query.mode {
-            2 => all::all_terms(judged, query, stretch),
+        match (query.mode, query.pairs.len()) {
+            (2, 2..) => all::all_terms(judged, query, stretch),
             _ => any::any_term(judged, query, &mut merge, stretch),
         }
         start = end;

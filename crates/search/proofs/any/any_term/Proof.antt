@@ -89,9 +89,11 @@ least-requires c κs =
 loop-holds : tie.Need-loop-holds Inv-loop μ-loop
 loop-holds c =
     let o = c .before .before .before .before .before .before in
-    let v = o .before .before .pre in
-    (λ μs g.
-    going-first g (ordered-long v (long o) (o .order .ensures)) (ordered-stands v (long o) (o .order .ensures)) (c .before .before .before .empty .ensures .0) (c .before .before .before .empty .ensures .1) (c .before .aside .ensures) (c .least .ensures), refl)
+    let v = o .before .before .pre in (
+      λ μs g.
+          going-first g (ordered-long v (long o) (o .order .ensures)) (ordered-stands v (long o) (o .order .ensures)) (c .before .before .before .empty .ensures .0) (c .before .before .before .empty .ensures .1) (c .before .aside .ensures) (c .least .ensures),
+      refl,
+    )
 
 -- src/any.rt:31:13
 slice-aggregate-walk : tie.Need-slice-aggregate-walk Inv-loop μ-loop
@@ -194,17 +196,18 @@ loop-less c =
 
 -- src/any.rt:30:5
 loop-again : tie.Need-loop-again Inv-loop μ-loop
-loop-again c =
-    (λ μs g.
-    let w = c .before .before .before .before .before .before .before .before .before .before .before .before .before .before .loop .inv .0 μs g in
-    let r = c .before .before .before .before .before .before .before .before .before .before .before .walk .result in
-    let e = c .before .before .before .before .before .before .before .before .before .before .before .walk .ensures .0 in
-    let is = c .before .before .before .before .before .before .before .before .enum-told3 .given .1 in
-    let l = c .before .before .before .before .before .before .before .before .before .before .before .walk .ensures .1 .1 is in
-    let ranked = c .before .before .aside2 .ensures ∙ ap (asideOf (c .before .before .before .before .before .before .before .before .before .before .before .before .before .before .before .before .before .before .before .before .prefix .result) (c .before .before .before .before .before .before .before .before .before .before .before .before .before .before .before .before .before .before .before .if1 .limit)) (c .before .before .before .before .before .bar .ensures) in
-    let coming = c .least2 .ensures ∙ coming-least g w r e is l (rank-up g w r e is l (c .before .before .before .before .before .before .insert .result) (c .before .before .before .before .before .before .insert .ensures .0) ranked) in
-    rw (c .before .before .before .before .before .bar .ensures) (going-entered g w r e is l (c .before .before .before .before .before .before .insert .ensures .0) (c .before .before .before .before .before .before .insert .ensures .1) (c .before .before .before .before .before .before .insert .ensures .2) ranked coming),
-    search needs)
+loop-again c = (
+  λ μs g.
+      let w = c .before .before .before .before .before .before .before .before .before .before .before .before .before .before .loop .inv .0 μs g in
+      let r = c .before .before .before .before .before .before .before .before .before .before .before .walk .result in
+      let e = c .before .before .before .before .before .before .before .before .before .before .before .walk .ensures .0 in
+      let is = c .before .before .before .before .before .before .before .before .enum-told3 .given .1 in
+      let l = c .before .before .before .before .before .before .before .before .before .before .before .walk .ensures .1 .1 is in
+      let ranked = c .before .before .aside2 .ensures ∙ ap (asideOf (c .before .before .before .before .before .before .before .before .before .before .before .before .before .before .before .before .before .before .before .before .prefix .result) (c .before .before .before .before .before .before .before .before .before .before .before .before .before .before .before .before .before .before .before .if1 .limit)) (c .before .before .before .before .before .bar .ensures) in
+      let coming = c .least2 .ensures ∙ coming-least g w r e is l (rank-up g w r e is l (c .before .before .before .before .before .before .insert .result) (c .before .before .before .before .before .before .insert .ensures .0) ranked) in
+      rw (c .before .before .before .before .before .bar .ensures) (going-entered g w r e is l (c .before .before .before .before .before .before .insert .ensures .0) (c .before .before .before .before .before .before .insert .ensures .1) (c .before .before .before .before .before .before .insert .ensures .2) ranked coming),
+  search needs,
+)
 
 -- src/any.rt:30:5
 loop-less-2 : tie.Need-loop-less-2 Inv-loop μ-loop
@@ -220,17 +223,18 @@ loop-less-2 c =
 
 -- src/any.rt:30:5
 loop-again-2 : tie.Need-loop-again-2 Inv-loop μ-loop
-loop-again-2 c =
-    (λ μs g.
-    let w = c .before .before .before .before .before .before .before .before .before .before .before .before .before .loop .inv .0 μs g in
-    let r = c .before .before .before .before .before .before .before .before .before .before .walk .result in
-    let e = c .before .before .before .before .before .before .before .before .before .before .walk .ensures .0 in
-    let is = c .before .before .before .before .before .before .before .enum-told3 .given .1 in
-    let l = c .before .before .before .before .before .before .before .before .before .before .walk .ensures .1 .1 is in
-    let ranked = sym (c .if2 .left) ∙ c .before .aside2 .ensures ∙ ap (asideOf (c .before .before .before .before .before .before .before .before .before .before .before .before .before .before .before .before .before .before .before .prefix .result) (c .before .before .before .before .before .before .before .before .before .before .before .before .before .before .before .before .before .before .if1 .limit)) (c .before .before .before .before .bar .ensures) in
-    let coming = coming-same g w r e is l {rank = c .before .before .before .before .before .before .before .before .before .before .before .before .before .loop .j} refl in
-    rw (c .before .before .before .before .bar .ensures) (going-entered g w r e is l (c .before .before .before .before .before .insert .ensures .0) (c .before .before .before .before .before .insert .ensures .1) (c .before .before .before .before .before .insert .ensures .2) ranked coming),
-    search needs)
+loop-again-2 c = (
+  λ μs g.
+      let w = c .before .before .before .before .before .before .before .before .before .before .before .before .before .loop .inv .0 μs g in
+      let r = c .before .before .before .before .before .before .before .before .before .before .walk .result in
+      let e = c .before .before .before .before .before .before .before .before .before .before .walk .ensures .0 in
+      let is = c .before .before .before .before .before .before .before .enum-told3 .given .1 in
+      let l = c .before .before .before .before .before .before .before .before .before .before .walk .ensures .1 .1 is in
+      let ranked = sym (c .if2 .left) ∙ c .before .aside2 .ensures ∙ ap (asideOf (c .before .before .before .before .before .before .before .before .before .before .before .before .before .before .before .before .before .before .before .prefix .result) (c .before .before .before .before .before .before .before .before .before .before .before .before .before .before .before .before .before .before .if1 .limit)) (c .before .before .before .before .bar .ensures) in
+      let coming = coming-same g w r e is l {rank = c .before .before .before .before .before .before .before .before .before .before .before .before .before .loop .j} refl in
+      rw (c .before .before .before .before .bar .ensures) (going-entered g w r e is l (c .before .before .before .before .before .insert .ensures .0) (c .before .before .before .before .before .insert .ensures .1) (c .before .before .before .before .before .insert .ensures .2) ranked coming),
+  search needs,
+)
 
 pub any-term-spec : {M : Type 1} → statement M
 any-term-spec =
