@@ -30,12 +30,12 @@ pub record Unpacked (s : List ℕ) (c : Cursor) (p base : ℕ) (room room′ : L
   pub others : (y : ℕ) → (y < base) ⊎ (base + 65 ≤ y) → getD room′ y 0 ≡ getD room y 0
   pub long : length room′ ≡ length room
 
--- a place of the room
+-- the first place of a part of the room: its key, and the place after it with the key there
 abbrev pub spotAt : List ℕ → ℕ → Spot
-spotAt room place = record { place = place; key = getD room place 0; next = getD room (place + 1) 0 }
+spotAt room base = record { place = base + 1; key = getD room base 0; next = getD room (base + 1) 0 }
 
 -- the next place, or the same
 pub record Passed (room : List ℕ) (go : Bool) (x r : Spot) : Type 0 where
   pub goes : go ≡ true → (r .place ≡ x .place + 1) × (r .key ≡ x .next)
   pub stays : go ≡ false → (r .place ≡ x .place) × (r .key ≡ x .key)
-  pub next : r .next ≡ getD room (r .place + 1) 0
+  pub next : r .next ≡ getD room (r .place) 0

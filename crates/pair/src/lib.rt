@@ -5,12 +5,13 @@ use mentions::Mention;
 use mentions::Tally;
 ghost use mathlib.Core.Path.{_≡_};
 ghost use mathlib.Core.Bool.{true, false};
-ghost use Prim.Native.Nat.{_/_, _%_, _≤_, _<_, min};
+ghost use Prim.Native.Nat.{_-_, _/_, _%_, _≤_, _<_, min};
 ghost use lib.ListN.{length};
 ghost use Rattle.meaning.specs.Image.{indexOf};
 ghost use Rattle.cursor.specs.Sound.{Sound};
 ghost use Rattle.pair.specs.Alone.{SomeAlone, EachAlone};
-ghost use Rattle.pair.specs.Pair.{seated, Seats, SomePair, EachPair};
+ghost use Rattle.visit.specs.Stand.{Stands, Goes};
+ghost use Rattle.pair.specs.Pair.{seated, Stood, Seats, SomePair, EachPair};
 ghost use Rattle.pair.specs.Room.{furtherAt, Unpacked, spotAt, Passed};
 
 // Where the second mention's part of the room starts, and the place after that.
@@ -48,22 +49,14 @@ pub struct Drawn {
 }
 
 // The one mention above rank j, over its documents: until a document's sum passes the bar less P(j), the stop, or the end.
-pub fn alone(
-    image: &[u8],
-    m: Mention,
-    bar: u32,
-    floor: u32,
-    limit: u32,
-    past: u32,
-    count: u32,
-) -> Swept
-    requires { ⌜ SomeAlone (now image) m bar floor limit past count ⌝ }
-    ensures { λ r. ⌜ EachAlone (now (image .entry)) m bar floor limit past count (r .mention) (r .past) (r .tally) ⌝ }
+pub fn alone(image: &[u8], m: Mention, slack: u32, limit: u32, past: u32, count: u32) -> Swept
+    requires { ⌜ SomeAlone (now image) m slack limit past count ⌝ }
+    ensures { λ r. ⌜ EachAlone (now (image .entry)) m slack limit past count (r .mention) (r .past) (r .tally) ⌝ }
 {
     let mut m = m;
     let mut past = past;
     let mut t = Tally { sum: 0, count };
-    while visit::goes_on(t, bar, floor, limit, m.cursor.past, past) {
+    while visit::goes_on(t, slack, limit, m.cursor.past, past) {
         let here = m.cursor.past;
         t = mentions::scored(visit::carried(t, past, here), m.weight, m.cursor.impact);
         past = here;
@@ -92,7 +85,7 @@ fn pick(go: bool, a: u64, b: u64) -> u64
 
 // Up to `most` keys of a mention's postings, from its own on in its block, into the places of the room from `base` on; 0 after the last.
 fn unpack(image: &[u8], c: Cursor, p: usize, base: usize, most: usize, room: &mut [u64])
-    requires { ⌜ Sound (now image) (indexOf (now image) .docs) c × (p < 16) × (base ≤ 66) × (0 < most) × (most ≤ 64) × (length (now room) ≡ 132) ⌝ }
+    requires { ⌜ Sound (now image) (indexOf (now image) .docs) c × (p < 16) × (base ≤ 990) × (0 < most) × (most ≤ 64) × (length (now room) ≡ 1058) ⌝ }
     ensures { λ _. ⌜ Unpacked (now (image .entry)) c p base (now (room .entry)) (now (room .exit)) ⌝ }
 {
     let mut c = c;
@@ -106,14 +99,13 @@ fn unpack(image: &[u8], c: Cursor, p: usize, base: usize, most: usize, room: &mu
     room[at] = 0;
 }
 
-// The room filled from a mention's posting on, and its first place.
-fn filled(image: &[u8], c: Cursor, p: usize, base: usize, most: usize, room: &mut [u64]) -> Spot
-    requires { ⌜ Sound (now image) (indexOf (now image) .docs) c × (p < 16) × (base ≤ 66) × (0 < most) × (most ≤ 64) × (length (now room) ≡ 132) ⌝ }
-    ensures { λ r. ⌜ Unpacked (now (image .entry)) c p base (now (room .entry)) (now (room .exit)) × (r ≡ spotAt (now (room .exit)) base) ⌝ }
+// The first place of a part of the room.
+fn opened(room: &[u64], base: usize) -> Spot
+    requires { ⌜ (base ≤ 990) × (length (now room) ≡ 1058) ⌝ }
+    ensures { λ r. ⌜ r ≡ spotAt (now (room .entry)) base ⌝ }
 {
-    unpack(image, c, p, base, most, room);
     Spot {
-        place: base,
+        place: base + 1,
         key: room[base],
         next: room[base + 1],
     }
@@ -121,7 +113,7 @@ fn filled(image: &[u8], c: Cursor, p: usize, base: usize, most: usize, room: &mu
 
 // The next place where `go` holds, else the same.
 fn passed(go: bool, s: Spot, room: &[u64]) -> Spot
-    requires { ⌜ (s .place < 130) × (length (now room) ≡ 132) ⌝ }
+    requires { ⌜ (s .place < 1057) × (length (now room) ≡ 1058) ⌝ }
     ensures { λ r. ⌜ Passed (now (room .entry)) go s r ⌝ }
 {
     let step = pick(go, 1, 0) as usize;
@@ -129,7 +121,7 @@ fn passed(go: bool, s: Spot, room: &[u64]) -> Spot
     Spot {
         place: place,
         key: pick(go, s.next, s.key),
-        next: room[place + 1],
+        next: room[place],
     }
 }
 
@@ -142,11 +134,7 @@ fn weigh(go: bool, a: u32, b: u32) -> u32
 
 // A mention n postings further in its block, at the one with this key.
 pub fn stood(image: &[u8], m: Mention, key: u64, n: usize) -> Mention
-    requires { ⌜ Sound (now image) (indexOf (now image) .docs) (m .cursor)
-        × (n ≤ m .cursor .rest)
-        × (n ≤ 64)
-        × (key / 4096 ≡ furtherAt (now image) (m .cursor) n .past)
-        × (0 < n → key % 256 ≡ furtherAt (now image) (m .cursor) n .impact) ⌝ }
+    requires { ⌜ Stood (now image) m key n ⌝ }
     ensures { λ r. ⌜ r ≡ seated (now (image .entry)) m n ⌝ }
 {
     if n == 0 {
@@ -163,6 +151,27 @@ pub fn stood(image: &[u8], m: Mention, key: u64, n: usize) -> Mention
         last: m.cursor.last,
     };
     Mention { cursor: c, ..m }
+}
+
+// A mention whose part of the room is read out: it stands n postings further, at the one with this key, goes on, and the part is filled anew.
+fn refilled(
+    image: &[u8],
+    m: Mention,
+    key: u64,
+    n: usize,
+    p: usize,
+    base: usize,
+    room: &mut [u64],
+) -> Mention
+    requires { ⌜ Stood (now image) m key n × (p < 16) × (base ≤ 990) × (length (now room) ≡ 1058)
+        × Stands (now image) (seated (now image) m n .cursor .past - 1) (seated (now image) m n)
+        × (seated (now image) m n .cursor .past ≡ 4294967295 → ⊥) ⌝ }
+    ensures { λ r. ⌜ Goes (now (image .entry)) (seated (now (image .entry)) m n .cursor .past) (seated (now (image .entry)) m n) r
+        × Unpacked (now (image .entry)) (r .cursor) p base (now (room .entry)) (now (room .exit)) ⌝ }
+{
+    let r = visit::went(image, stood(image, m, key, n));
+    unpack(image, r.cursor, p, base, 64, room);
+    r
 }
 
 // No pair yet: any mention twice, at no place.
@@ -186,11 +195,13 @@ pub fn blank(m: Mention) -> Pair
 pub fn paired(image: &[u8], one: Mention, two: Mention, room: &mut [u64]) -> Pair
     requires { ⌜ Sound (now image) (indexOf (now image) .docs) (one .cursor)
         × Sound (now image) (indexOf (now image) .docs) (two .cursor)
-        × (length (now room) ≡ 132) ⌝ }
+        × (length (now room) ≡ 1058) ⌝ }
     ensures { λ r. ⌜ Seats (now (image .entry)) one two r (now (room .exit)) ⌝ }
 {
-    let x = filled(image, one.cursor, 0, 0, 8, room);
-    let y = filled(image, two.cursor, 1, PART, 8, room);
+    unpack(image, one.cursor, 0, 0, 8, room);
+    let x = opened(room, 0);
+    unpack(image, two.cursor, 1, PART, 8, room);
+    let y = opened(room, PART);
     Pair { one, two, x, y }
 }
 
@@ -199,14 +210,13 @@ pub fn together(
     image: &[u8],
     p: Pair,
     room: &mut [u64],
-    bar: u32,
-    floor: u32,
+    slack: u32,
     limit: u32,
     past: u32,
     count: u32,
 ) -> Drawn
-    requires { ⌜ SomePair (now image) (p .one) (p .two) (p .x) (p .y) (now room) bar floor limit past count ⌝ }
-    ensures { λ r. ⌜ EachPair (now (image .entry)) (p .one) (p .two) (p .x) (p .y) (now (room .entry)) bar floor limit past count (r .pair .one) (r .pair .two) (r .pair .x) (r .pair .y) (now (room .exit)) (r .past) (r .tally) ⌝ }
+    requires { ⌜ SomePair (now image) (p .one) (p .two) (p .x) (p .y) (now room) slack limit past count ⌝ }
+    ensures { λ r. ⌜ EachPair (now (image .entry)) (p .one) (p .two) (p .x) (p .y) (now (room .entry)) slack limit past count (r .pair .one) (r .pair .two) (r .pair .x) (r .pair .y) (now (room .exit)) (r .past) (r .tally) ⌝ }
 {
     let mut a = p.one;
     let mut b = p.two;
@@ -215,7 +225,7 @@ pub fn together(
     let mut past = past;
     let mut t = Tally { sum: 0, count };
     let mut top = lower(x.key, y.key);
-    while visit::goes_on(t, bar, floor, limit, (top / 4096) as u32, past) {
+    while visit::goes_on(t, slack, limit, (top / 4096) as u32, past) {
         let here = (top / 4096) as u32;
         let first = x.key < y.key;
         let second = !first;
@@ -225,17 +235,18 @@ pub fn together(
             (top % 256) as u32,
         );
         past = here;
-        let old = top;
         x = passed(first, x, room);
         y = passed(second, y, room);
         top = lower(x.key, y.key);
         if top == 0 {
-            if first {
-                a = visit::went(image, stood(image, a, old, x.place - 1));
-                x = filled(image, a.cursor, 0, 0, 64, room);
+            if x.key == 0 {
+                let n = x.place - 2;
+                a = refilled(image, a, room[n], n, 0, 0, room);
+                x = opened(room, 0);
             } else {
-                b = visit::went(image, stood(image, b, old, y.place - AFTER));
-                y = filled(image, b.cursor, 1, PART, 64, room);
+                let n = y.place - 2;
+                b = refilled(image, b, room[n], n - PART, 1, PART, room);
+                y = opened(room, PART);
             }
             top = lower(x.key, y.key);
         }

@@ -26,11 +26,11 @@ use Rattle.visit.specs.Scoring.{Site, Scoring, scoring-first, scoring-sk
 use Rattle.visit.specs.Looking.{Looking, looking-first, Visited, visited-all, visited-dropped}
 use Rattle.visit.specs.Walking.{Walking, Visiting, visiting, going-on, going-up}
 
--- whether postings are taken on, as it is tested: what is scored before a document is at most the budget less q
-pub goes-by : (t : Tally) (q : ℕ) {bar floor low limit budget here past : ℕ} → low ≡ floor → budget ≡ limit + q →
-    (here ≡ past) ⊎ ((t .sum + floor ≤ bar) × (t .count ≤ limit) × (here ≡ 4294967295 → ⊥)) →
+-- whether postings are taken on, as it is tested: the slack is the bar less P(j), and the limit the budget less q
+pub goes-by : (t : Tally) (low q : ℕ) {bar slack limit budget here past : ℕ} → bar ≡ slack + low → budget ≡ limit + q →
+    (here ≡ past) ⊎ ((t .sum ≤ slack) × (t .count ≤ limit) × (here ≡ 4294967295 → ⊥)) →
     (here ≡ past) ⊎ ((t .sum + low ≤ bar) × (t .count + q ≤ budget) × (here ≡ 4294967295 → ⊥))
-goes-by t q is spare goes = ⊎-elim inl (λ g. inr (rw is (g .0), omega (arith, g .1), g .2)) goes
+goes-by t low q under spare goes = ⊎-elim inl (λ g. inr (omega (arith, g .0), omega (arith, g .1), g .2)) goes
 
 -- the loop's state: document past - 1 is visited, with `before` postings scored before it, and its mentions from j up to `rank` are done
 pub record Midway (s : List ℕ) (os : List sc.Mention) (pre : List ℕ) (bar j q budget : ℕ) (run : Run) (from : ℕ) (ms : List Mention) (past : ℕ) (t : Tally) : Type 0 where
@@ -63,8 +63,8 @@ module _ {s : List ℕ} {os : List sc.Mention} {pre : List ℕ} {bar j q budget 
   done-after : (y : ℕ) → j ≤ y → y < x .rank → past < getD ms y none .cursor .past
   done-after y g h = omega (arith, stands-least (placed .gone y g h) (omega (arith, site .most, site .some)), site .some)
 
-  all-least : (y : ℕ) → j ≤ y → y < q → past ≤ getD ms y none .cursor .past
-  all-least y g h =
+  pub midway-least : (y : ℕ) → j ≤ y → y < q → past ≤ getD ms y none .cursor .past
+  midway-least y g h =
       by-order y (x .rank) (λ l. omega (arith, done-after y g l))
       (λ k. omega (arith, stands-least (placed .here y k (in-os h)) (omega (arith, site .most)), site .some))
 
@@ -72,12 +72,6 @@ module _ {s : List ℕ} {os : List sc.Mention} {pre : List ℕ} {bar j q budget 
   pub midway-sound : SoundFrom s ms j (q - j)
   midway-sound y h =
       by-order (j + y) (x .rank) (λ l. placed .gone (j + y) (omega arith) l .sound) (λ k. placed .here (j + y) k (in-os (omega arith)) .sound)
-
-  -- what is tested fits
-  pub floor-fits : t .sum + getD pre j 0 < 4294967296
-  floor-fits =
-      let p = placed-P placed j (omega (arith, site .rank, site .whole)) in
-      omega (arith, x .scoring .sum-fits, x .scoring .high, x .scoring .low, site .rank, site .few, site .sums j (omega arith))
 
   -- there is a mention above rank j
   pub some-mention : j < q
@@ -105,7 +99,7 @@ module _ {s : List ℕ} {os : List sc.Mention} {pre : List ℕ} {bar j q budget 
       all-done =
           let low = x .scoring .low in
           scoring-skip (q - x .rank) (x .scoring) q (omega (arith, x .scoring .high)) (omega arith) (λ y g l z.
-          ne (omega (arith, n .least y (omega arith) l, all-least i (n .low) (n .within), n .there)))
+          ne (omega (arith, n .least y (omega arith) l, midway-least i (n .low) (n .within), n .there)))
 
       stands-there : (y : ℕ) → y < length (drop j os) → getD ms (j + y) none .cursor .past ≡ pastOf (notBelow past (getD (drop j os) y noMention .postings))
       stands-there y h =

@@ -78,13 +78,13 @@ pub fn sought(image: &[u8], m: Mention, past: u32) -> Mention
     Mention { cursor: c, ..m }
 }
 
-// Whether postings are taken on: the one at hand is of the same document, or it is of a document that is visited after one that is dropped.
-pub fn goes_on(t: Tally, bar: u32, floor: u32, limit: u32, here: u32, past: u32) -> bool
-    requires { ⌜ t .sum + floor < 4294967296 ⌝ }
-    ensures { λ r. ⌜ (r ≡ true → (here ≡ past) ⊎ ((t .sum + floor ≤ bar) × (t .count ≤ limit) × (here ≡ 4294967295 → ⊥)))
+// Whether postings are taken on: the one at hand is of the same document, or it is of a document that is visited after one that is dropped,
+// whose sum is at most the slack, the bar less P(j).
+pub fn goes_on(t: Tally, slack: u32, limit: u32, here: u32, past: u32) -> bool
+    ensures { λ r. ⌜ (r ≡ true → (here ≡ past) ⊎ ((t .sum ≤ slack) × (t .count ≤ limit) × (here ≡ 4294967295 → ⊥)))
         × (r ≡ false → here ≡ past → ⊥) ⌝ }
 {
-    if t.sum + floor <= bar {
+    if t.sum <= slack {
         if t.count <= limit {
             if here != DONE {
                 return true;

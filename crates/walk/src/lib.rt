@@ -8,7 +8,7 @@ use visit::DONE;
 use visit::Visit;
 ghost use mathlib.Core.Path.{_≡_};
 ghost use Prim.Native.Nat.{_+_, _-_, _/_, _%_, _≤_, _<_};
-ghost use lib.ListN.{length};
+ghost use lib.ListN.{length, getD};
 ghost use Rattle.runs.specs.declared.Turn.the-variants.{Entered};
 ghost use Rattle.meaning.specs.Image.{indexOf};
 ghost use Rattle.cursor.specs.Sound.{Sound};
@@ -115,13 +115,13 @@ pub fn walk(
     budget: u32,
     room: &mut [u64],
 ) -> Visit
-    requires { ⌜ Starts (now image) ms (now pre) j q past count × (length (now room) ≡ 132) ⌝ }
+    requires { ⌜ Starts (now image) ms (now pre) j q past count × (length (now room) ≡ 1058) × (getD (now pre) j 0 ≤ bar) ⌝ }
     ensures runs { λ r. ⌜ runOf (indexOf (now (image .entry)) .docs) r ≡ runBy (now (image .entry)) (meantOf (now (image .entry)) q ms) bar j q budget past count ⌝ }
     ensures some { λ r. ⌜ 0 < r .past ⌝ }
     ensures leaves { λ r. ⌜ (r .turn ≡ Entered → Leaves (now (image .entry)) (meantOf (now (image .entry)) q ms) j r) ⌝ }
 {
     let n = q - j;
-    let floor = pre[j];
+    let slack = bar - pre[j];
     let mut ms = ms;
     let mut past = past;
     let mut count = count;
@@ -144,7 +144,7 @@ pub fn walk(
         let limit = budget - (q as u32);
         let mut t = Tally { sum: 0, count };
         if n == 1 {
-            let w = pair::alone(image, ms[j], bar, floor, limit, past, count);
+            let w = pair::alone(image, ms[j], slack, limit, past, count);
             let m = w.mention;
             ms[j] = m;
             past = w.past;
@@ -152,19 +152,19 @@ pub fn walk(
             t = u;
             top = visit::key(m.cursor, 0);
         } else if n == 2 {
-            let w = pair::together(image, pair, room, bar, floor, limit, past, count);
+            let w = pair::together(image, pair, room, slack, limit, past, count);
             let p = w.pair;
             pair = p;
             past = w.past;
             let u = w.tally;
             t = u;
-            let one = pair::stood(image, p.one, p.x.key, p.x.place);
+            let one = pair::stood(image, p.one, p.x.key, p.x.place - 1);
             ms[j] = one;
-            let two = pair::stood(image, p.two, p.y.key, p.y.place - pair::PART);
+            let two = pair::stood(image, p.two, p.y.key, p.y.place - pair::AFTER);
             ms[j + 1] = two;
             top = pair::lower(p.x.key, p.y.key);
         } else {
-            while visit::goes_on(t, bar, floor, limit, (top / 4096) as u32, past) {
+            while visit::goes_on(t, slack, limit, (top / 4096) as u32, past) {
                 let here = (top / 4096) as u32;
                 let p = (top / 256 % 16) as usize;
                 let i = j + p;

@@ -2,22 +2,22 @@
 use Prim.Native.Nat.{_-_}
 use native.Mathlib.Omega.{arith}
 use Rattle.visit.specs.Key.{sound-most}
-use Rattle.pair.specs.Alone.{Frame, AloneAt, withOne, alone-fits, alone-here, alone-own, alone-scores, alone-goes, alone-rises, alone-on, alone-again}
+use Rattle.pair.specs.Alone.{Frame, AloneAt, withOne, alone-here, alone-own, alone-scores, alone-goes, alone-rises, alone-on, alone-again}
 use Rattle.pair.proofs.alone.Statement.{statement}
 use Rattle.pair.proofs.alone.Tie as tie
 
 abbrev Inv-loop : tie.InvT-loop
-Inv-loop image bar floor limit past count m₀ past₀ t₀ m past' t =
-    (f : Frame) → AloneAt image f m₀ bar floor limit past₀ t₀ → AloneAt image (withOne f m) m bar floor limit past' t
+Inv-loop image slack limit past count m₀ past₀ t₀ m past' t =
+    (f : Frame) → AloneAt image f m₀ slack limit past₀ t₀ → AloneAt image (withOne f m) m slack limit past' t
 
 abbrev μ-loop : tie.MeasureT-loop
-μ-loop image bar floor limit past count m₀ past₀ t₀ m past' t = 4294967296 - m .cursor .past
+μ-loop image slack limit past count m₀ past₀ t₀ m past' t = 4294967296 - m .cursor .past
 
 -- a walk that the mention stands in, where its posting's document is visited
 here : (c : tie.After-carried Inv-loop μ-loop) →
     let l = c .before .before .before in
     let s = l .before .before in
-    AloneAt (s .args .image .now) (withOne (s .pre .0) (l .loop .m)) (l .loop .m) (s .args .bar) (s .args .floor) (s .args .limit) (l .loop .m .cursor .past) (c .carried .result)
+    AloneAt (s .args .image .now) (withOne (s .pre .0) (l .loop .m)) (l .loop .m) (s .args .slack) (s .args .limit) (l .loop .m .cursor .past) (c .carried .result)
 here c =
     let l = c .before .before .before in
     let s = l .before .before in
@@ -27,7 +27,7 @@ loop-holds : tie.Need-loop-holds Inv-loop μ-loop
 loop-holds c = λ f x. alone-own x
 
 goes-on-requires : tie.Need-goes-on-requires Inv-loop μ-loop
-goes-on-requires c κs = let s = c .before .before in alone-fits (c .loop .inv (s .pre .0) (s .pre .1))
+goes-on-requires c κs = tt
 
 carried-requires : tie.Need-carried-requires Inv-loop μ-loop
 carried-requires c κs = tt

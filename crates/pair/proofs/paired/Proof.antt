@@ -1,23 +1,28 @@
 -- `paired`: one part of the room is filled and then the other, which leaves the first as it is.
-use mathlib.Core.Path.{_∙_}
-use native.Mathlib.Omega.{arith}
 use borrow.Author.Needs.{needs}
 use Rattle.pair.specs.Pair.{seats-first}
 use Rattle.pair.proofs.paired.Statement.{statement}
 use Rattle.pair.proofs.paired.Tie as tie
 
-filled-requires : tie.Need-filled-requires
-filled-requires c κs = let p = c .before .before .before .pre in (p .0, omega arith, omega arith, omega arith, omega arith, p .2)
+unpack-requires : tie.Need-unpack-requires
+unpack-requires c κs = search needs
 
-filled-requires-2 : tie.Need-filled-requires-2
-filled-requires-2 c κs = let p = c .before .before .before .before .before .before .before .pre in (p .1, omega arith, omega arith, omega arith, omega arith, c .before .before .before .filled .ensures .0 .long ∙ p .2)
+opened-requires : tie.Need-opened-requires
+opened-requires c κs = search needs
 
-returns : tie.Need-returns
-returns c = let p = c .before .before .before .before .before .before .before .before .before .before .pre in
-    seats-first (p .0) (p .1) (p .2) (c .before .before .before .before .before .before .filled .ensures .0) (c .before .before .before .before .before .before .filled .ensures .1) (c .before .before .filled2 .ensures .0) (c .before .before .filled2 .ensures .1)
+unpack-requires-2 : tie.Need-unpack-requires-2
+unpack-requires-2 c κs = search needs
+
+opened-requires-2 : tie.Need-opened-requires-2
+opened-requires-2 c κs = search needs
 
 same-length : tie.Need-same-length
 same-length c = search needs
 
+returns : tie.Need-returns
+returns c =
+    let p = c .before .before .before .before .before .before .before .before .before .before .before .before .before .before .pre in
+    seats-first (p .0) (p .1) (p .2) (c .before .before .before .before .before .before .before .before .before .before .unpack .ensures) (c .before .before .before .before .before .before .opened .ensures) (c .before .before .before .before .unpack2 .ensures) (c .opened2 .ensures)
+
 pub paired-spec : {M : Type 1} → statement M
-paired-spec = tie.close (tie.spec filled-requires filled-requires-2 same-length returns)
+paired-spec = tie.close (tie.spec unpack-requires opened-requires unpack-requires-2 opened-requires-2 same-length returns)

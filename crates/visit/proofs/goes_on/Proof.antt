@@ -7,9 +7,6 @@ use borrow.Author.Tests.{eqb-true, eqb-false}
 use Rattle.visit.proofs.goes_on.Statement.{statement}
 use Rattle.visit.proofs.goes_on.Tie as tie
 
-add-if1 : tie.Need-add-if1
-add-if1 c = search needs
-
 returns : tie.Need-returns
 returns c = (λ e. inr (c .before .before .before .if1 .taken, c .before .if2 .taken, omega arith), λ f. absurd (true≢false f))
 
@@ -17,4 +14,4 @@ returns-2 : tie.Need-returns-2
 returns-2 c = (λ e. inl (eqb-true _ _ e), λ f. eqb-false _ _ f)
 
 pub goes-on-spec : {M : Type 1} → statement M
-goes-on-spec = tie.close (tie.spec add-if1 returns returns-2)
+goes-on-spec = tie.close (tie.spec returns returns-2)
