@@ -50,26 +50,26 @@ kept-aside {j = j} k same =
 module _ {s : List ℕ} {os : List sc.Mention} {pre : List ℕ} {bar j q budget : ℕ} {run : Run} {ms : List Mention} {past count : ℕ} (w : Walking s os pre bar j q budget run ms past count)
     (ne : past ≡ 4294967295 → ⊥) (fits : count + q ≤ budget) where
   -- with one mention above rank j
-  pub alone-starts : {floor limit : ℕ} → q - j ≡ 1 → getD pre j 0 ≡ floor → budget ≡ limit + q →
-      AloneAt s (record { os = os; pre = pre; j = j; q = q; budget = budget; run = run; from = past; ms = ms }) (getD ms j none) bar floor limit past (record { sum = 0; count = count })
+  pub alone-starts : {slack limit : ℕ} → q - j ≡ 1 → bar ≡ slack + getD pre j 0 → budget ≡ limit + q →
+      AloneAt s (record { os = os; pre = pre; bar = bar; j = j; q = q; budget = budget; run = run; from = past; ms = ms }) (getD ms j none) slack limit past (record { sum = 0; count = count })
   alone-starts one low spare = record { one = omega arith; spare = spare; own = refl; low = low; midway = midway-first w ne fits (omega arith) }
 
   -- with two
-  pub pair-starts : {floor limit : ℕ} {p : Pair} {room : List ℕ} → q - j ≡ 2 → getD pre j 0 ≡ floor → budget ≡ limit + q → Seats s (getD ms j none) (getD ms (j + 1) none) p room →
-      PairAt s (record { os = os; pre = pre; j = j; q = q; budget = budget; run = run; from = past; ms = ms }) (p .one) (p .two) (p .x) (p .y) room bar floor limit past (record { sum = 0; count = count })
+  pub pair-starts : {slack limit : ℕ} {p : Pair} {room : List ℕ} → q - j ≡ 2 → bar ≡ slack + getD pre j 0 → budget ≡ limit + q → Seats s (getD ms j none) (getD ms (j + 1) none) p room →
+      PairAt s (record { os = os; pre = pre; bar = bar; j = j; q = q; budget = budget; run = run; from = past; ms = ms }) (p .one) (p .two) (p .x) (p .y) room slack limit past (record { sum = 0; count = count })
   pair-starts two low spare k =
       record { two = omega arith; spare = spare; low = low; long = k .long; one = k .one; other = k .other; here = k .here; there = k .there; midway = midway-first w ne fits (omega arith) }
 
 -- the one mention has gone on alone
-pub come-alone : {s : List ℕ} {f : Frame} {bar floor limit : ℕ} {m : Mention} {past : ℕ} {t : Tally} {top : ℕ} → AloneTo s f bar floor limit m past t → top ≡ keyOf (m .cursor) 0 →
-    Come s (f .os) (f .pre) bar (f .j) (f .q) (f .budget) (f .run) (f .from) (set (f .ms) (f .j) m) past t top
+pub come-alone : {s : List ℕ} {f : Frame} {slack limit : ℕ} {m : Mention} {past : ℕ} {t : Tally} {top : ℕ} → AloneTo s f slack limit m past t → top ≡ keyOf (m .cursor) 0 →
+    Come s (f .os) (f .pre) (f .bar) (f .j) (f .q) (f .budget) (f .run) (f .from) (set (f .ms) (f .j) m) past t top
 come-alone {f = f} {m = m} x e =
     let past-is = key-past (m .cursor) 0 (omega arith) in
     rw e (record { midway = x .at .midway; i = f .j; next = rw past-is (alone-next (x .at)); later = rw past-is (x .later) })
 
 -- the two have gone on together, and stand in the array again
-module _ {s : List ℕ} {f : Frame} {p : Pair} {room : List ℕ} {bar floor limit past : ℕ} {t : Tally} (x : PairIn s f (p .one) (p .two) (p .x) (p .y) room bar floor limit past t)
-    (long : length (f .ms) ≡ 16) {one two : Mention} (first : one ≡ seated s (p .one) (p .x .place)) (second : two ≡ seated s (p .two) (p .y .place - 66)) where
+module _ {s : List ℕ} {f : Frame} {p : Pair} {room : List ℕ} {slack limit past : ℕ} {t : Tally} (x : PairIn s f (p .one) (p .two) (p .x) (p .y) room slack limit past t)
+    (long : length (f .ms) ≡ 16) {one two : Mention} (first : one ≡ seated s (p .one) (p .x .place - 1)) (second : two ≡ seated s (p .two) (p .y .place - 67)) where
   few : f .j + 1 < 16
   few = omega (arith, x .at .two, x .at .midway .visiting .site .few)
 
@@ -78,7 +78,6 @@ module _ {s : List ℕ} {f : Frame} {p : Pair} {room : List ℕ} {bar floor limi
       let ms = f .ms in
       let j = f .j in
       let wide : length (set ms j one) ≡ 16 = simp length-set long in
-      let here : p .x .place - 0 ≡ p .x .place = omega arith in
       let at-two = getD-set-same (set ms j one) (j + 1) two none (omega (arith, few)) in
       let at-one = getD-set-other (set ms j one) (j + 1) j two none (λ e. omega arith) ∙ getD-set-same ms j one none (omega (arith, few)) in
       ext-getD none (x .ms) (set (set ms j one) (j + 1) two) (x .at .midway .scoring .long ∙ sym (simp length-set long)) (λ z h.
@@ -86,14 +85,14 @@ module _ {s : List ℕ} {f : Frame} {p : Pair} {room : List ℕ} {bar floor limi
       (λ b. rw (eqb-true z (j + 1) b) (x .at .other ∙ sym second ∙ sym at-two))
       (λ b.
       by-test (eqb z j)
-      (λ g. rw (eqb-true z j g) (x .at .one ∙ rw here (sym first) ∙ sym at-one))
+      (λ g. rw (eqb-true z j g) (x .at .one ∙ sym first ∙ sym at-one))
       (λ g.
       let no = eqb-false z j g in
       let nor = eqb-false z (j + 1) b in
       x .others z no nor ∙ sym (getD-set-other (set ms j one) (j + 1) z two none nor ∙ getD-set-other ms j z one none no))))
 
   pub come-pair : {top : ℕ} → top ≡ min (p .x .key) (p .y .key) → (min (p .x .key) (p .y .key) / 4096 ≡ past → ⊥) →
-      Come s (f .os) (f .pre) bar (f .j) (f .q) (f .budget) (f .run) (f .from) (set (set (f .ms) (f .j) one) (f .j + 1) two) past t top
+      Come s (f .os) (f .pre) (f .bar) (f .j) (f .q) (f .budget) (f .run) (f .from) (set (set (f .ms) (f .j) one) (f .j + 1) two) past t top
   come-pair e later = rw (e, ← same) (record { midway = x .at .midway; i = pair-next (x .at) .0; next = pair-next (x .at) .1; later = later })
 
   pub seats-again : Seats s (getD (set (set (f .ms) (f .j) one) (f .j + 1) two) (f .j) none) (getD (set (set (f .ms) (f .j) one) (f .j + 1) two) (f .j + 1) none) p room

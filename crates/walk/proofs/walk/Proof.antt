@@ -2,9 +2,9 @@
 use mathlib.Core.Path.{_≡_, refl, sym, ap, _∙_}
 use mathlib.Core.Logic.{⊎-elim}
 use mathlib.Core.List.{List}
-use Prim.Native.Nat.{ℕ, _+_, _-_, _*_, _/_, _<_}
+use Prim.Native.Nat.{ℕ, _+_, _-_, _*_, _/_, _%_, _<_}
 use native.Mathlib.Omega.{arith}
-use lib.ListN.{length, drop, length-map, length-take}
+use lib.ListN.{length, drop, getD, length-map, length-take}
 use borrow.Author.Needs.{needs}
 use borrow.Author.Tests.{ltb-true, ltb-false}
 use borrow.Author.Count.{falls-down}
@@ -18,9 +18,10 @@ use Rattle.visit.specs.Walk.{meantOf, runBy}
 use Rattle.visit.specs.Scoring.{costs-fit, scored-hit, scored-miss}
 use Rattle.visit.specs.Looking.{Looking, Found, Visited, in-seventeen, in-sixteen, test-fits, look-seeks, look-scores, found-sought, found-here, found-aside, looking-on, visited-all, visited-dropped}
 use Rattle.visit.specs.Walking.{Walking, Ends, walking-own, as-asked, visiting, finished, stopped, entered, going-falls, going-on}
-use Rattle.visit.specs.Postings.{Midway, goes-by, midway-first, in-mentions, next-is, looking-starts, visited-there, floor-fits, midway-here, posting-scores, posting-goes, midway-on}
+use Rattle.visit.specs.Postings.{Midway, goes-by, midway-first, in-mentions, next-is, looking-starts, visited-there, midway-here, posting-scores, posting-goes, midway-on}
 use Rattle.visit.specs.declared.Visit.{Visit}
-use Rattle.pair.specs.Pair.{side-stood}
+use Rattle.pair.specs.Alone.{Frame, AloneAt, AloneTo}
+use Rattle.pair.specs.Pair.{PairAt, PairIn, side-stood}
 use Rattle.walk.specs.Keys.{Keyed}
 use Rattle.walk.specs.KeyLaws.{blank-rows, keyed-on}
 use Rattle.walk.specs.Sweep.{Come, Kept, kept-aside, alone-starts, pair-starts, come-alone, come-pair, seats-again, any-next, any-place, any-rises, come-any}
@@ -28,30 +29,30 @@ use Rattle.walk.proofs.walk.Statement.{statement}
 use Rattle.walk.proofs.walk.Tie as tie
 
 abbrev Inv-loop2 : tie.InvT-loop2
-Inv-loop2 image pre j q past count bar budget room n floor ms₀ past₀ count' a₀ b₀ c₀ d₀ next₀ pair top₀ limit t₀ ms past' a b c d next top t =
+Inv-loop2 image pre j q past count bar budget room n slack ms₀ past₀ count' a₀ b₀ c₀ d₀ next₀ pair top₀ limit t₀ ms past' a b c d next top t =
     Midway image (meantOf image q ms₀) pre bar j q budget (runBy image (meantOf image q ms₀) bar j q budget past₀ count') past₀ ms past' t
     × Keyed image ms j (q - j) a b c d next top
 
 abbrev μ-loop2 : tie.MeasureT-loop2
-μ-loop2 image pre j q past count bar budget room n floor ms₀ past₀ count' a₀ b₀ c₀ d₀ next₀ pair top₀ limit t₀ ms past' a b c d next top t =
+μ-loop2 image pre j q past count bar budget room n slack ms₀ past₀ count' a₀ b₀ c₀ d₀ next₀ pair top₀ limit t₀ ms past' a b c d next top t =
     18446744073709551616 - top
 
 abbrev Inv-loop3 : tie.InvT-loop3
-Inv-loop3 image pre j q past count bar budget room n floor ms₀ past' count' a b c d next pair top limit t₀ i₀ ms t i =
+Inv-loop3 image pre j q past count bar budget room n slack ms₀ past' count' a b c d next pair top limit t₀ i₀ ms t i =
     Looking image (meantOf image q ms₀) pre bar j q past' (t₀ .count - sc.holders (drop j (meantOf image q ms₀)) (past' - 1)) ms t i
     × Kept image ms j q a b c d next room pair top
 
 abbrev μ-loop3 : tie.MeasureT-loop3
-μ-loop3 image pre j q past count bar budget room n floor ms₀ past' count' a b c d next pair top limit t₀ i₀ ms t i = i
+μ-loop3 image pre j q past count bar budget room n slack ms₀ past' count' a b c d next pair top limit t₀ i₀ ms t i = i
 
 abbrev Inv-loop : tie.InvT-loop
-Inv-loop image pre j q past count bar budget room₀ n floor ms₀ past₀ count₀ a₀ b₀ c₀ d₀ next₀ pair₀ top₀ room ms past' count' a b c d next pair top =
+Inv-loop image pre j q past count bar budget room₀ n slack ms₀ past₀ count₀ a₀ b₀ c₀ d₀ next₀ pair₀ top₀ room ms past' count' a b c d next pair top =
     Walking image (meantOf image q ms₀) pre bar j q budget (runBy image (meantOf image q ms₀) bar j q budget past₀ count₀) ms past' count'
     × Kept image ms j q a b c d next room pair top
-    × (length room ≡ 132)
+    × (length room ≡ 1058)
 
 abbrev μ-loop : tie.MeasureT-loop
-μ-loop image pre j q past count bar budget room₀ n floor ms₀ past₀ count₀ a₀ b₀ c₀ d₀ next₀ pair₀ top₀ room ms past' count' a b c d next pair top =
+μ-loop image pre j q past count bar budget room₀ n slack ms₀ past₀ count₀ a₀ b₀ c₀ d₀ next₀ pair₀ top₀ room ms past' count' a b c d next pair top =
     indexOf image .docs - docOf (indexOf image .docs) past'
 
 -- small numbers
@@ -64,11 +65,14 @@ place-fits i h = omega arith
 sub-n : tie.Need-sub-n Inv-loop2 μ-loop2 Inv-loop3 μ-loop3 Inv-loop μ-loop
 sub-n c = omega (arith, c .before .before .pre .0 .rank)
 
-mul-floor : tie.Need-mul-floor Inv-loop2 μ-loop2 Inv-loop3 μ-loop3 Inv-loop μ-loop
-mul-floor c = omega (arith, c .before .before .pre .0 .rank, c .before .before .pre .0 .few)
+mul-slack : tie.Need-mul-slack Inv-loop2 μ-loop2 Inv-loop3 μ-loop3 Inv-loop μ-loop
+mul-slack c = omega (arith, c .before .before .pre .0 .rank, c .before .before .pre .0 .few)
 
-element-copy-out-floor : tie.Need-element-copy-out-floor Inv-loop2 μ-loop2 Inv-loop3 μ-loop3 Inv-loop μ-loop
-element-copy-out-floor c = omega (arith, c .before .before .pre .0 .rank, c .before .before .pre .0 .few)
+element-copy-out-slack : tie.Need-element-copy-out-slack Inv-loop2 μ-loop2 Inv-loop3 μ-loop3 Inv-loop μ-loop
+element-copy-out-slack c = omega (arith, c .before .before .pre .0 .rank, c .before .before .pre .0 .few)
+
+sub-slack : tie.Need-sub-slack Inv-loop2 μ-loop2 Inv-loop3 μ-loop3 Inv-loop μ-loop
+sub-slack c = c .before .before .before .pre .2
 
 array-copy-out-blank : tie.Need-array-copy-out-blank Inv-loop2 μ-loop2 Inv-loop3 μ-loop3 Inv-loop μ-loop
 array-copy-out-blank c = search needs
@@ -127,7 +131,7 @@ begin-requires c κs =
 -- what is read ahead at the start
 kept-first : (c : tie.Joined1 Inv-loop2 μ-loop2 Inv-loop3 μ-loop3 Inv-loop μ-loop) →
     Kept (c .before .before .before .before .before .before .args .image .now) (c .before .before .before .before .before .before .args .ms) (c .before .before .before .before .before .before .args .j) (c .before .before .before .before .before .before .args .q) (c .if1 .a) (c .if1 .b) (c .if1 .c) (c .if1 .d) (c .if1 .next) (c .if1 .room) (c .if1 .pair) (c .if1 .top)
-    × (length (c .if1 .room) ≡ 132)
+    × (length (c .if1 .room) ≡ 1058)
 kept-first c =
     ⊎-elim
     (λ v. rw (v .7, v .13) (record { seats = λ two. v .4 .ensures; keyed = λ one two. absurd (two (v .0 .taken)) }, v .4 .ensures .long))
@@ -203,44 +207,49 @@ array-set-from-ms c = omega (arith, c .before .before .before .if3 .taken, c .be
 
 alone-requires : tie.Need-alone-requires Inv-loop2 μ-loop2 Inv-loop3 μ-loop3 Inv-loop μ-loop
 alone-requires c κs =
-    (_, alone-starts (walking-own (c .before .before .before .before .loop .inv .0)) (c .before .before .before .loop-test .taken) (c .before .before .if2 .left) (c .before .if3 .taken) refl (omega (arith, c .before .before .if2 .left)))
+    (_, alone-starts (walking-own (c .before .before .before .before .loop .inv .0)) (c .before .before .before .loop-test .taken) (c .before .before .if2 .left) (c .before .if3 .taken) (omega (arith, c .before .before .before .before .before .before .before .before .before .before .before .pre .2)) (omega (arith, c .before .before .if2 .left)))
 
 key-requires : tie.Need-key-requires Inv-loop2 μ-loop2 Inv-loop3 μ-loop3 Inv-loop μ-loop
 key-requires c κs = omega arith
 
 together-requires : tie.Need-together-requires Inv-loop2 μ-loop2 Inv-loop3 μ-loop3 Inv-loop μ-loop
 together-requires c κs =
-    (_, pair-starts (walking-own (c .before .before .before .before .before .loop .inv .0)) (c .before .before .before .before .loop-test .taken) (c .before .before .before .if2 .left) (c .before .if4 .taken) refl (omega (arith, c .before .before .before .if2 .left)) (c .before .before .before .before .before .loop .inv .1 .seats (c .before .if4 .taken)))
+    (_, pair-starts (walking-own (c .before .before .before .before .before .loop .inv .0)) (c .before .before .before .before .loop-test .taken) (c .before .before .before .if2 .left) (c .before .if4 .taken) (omega (arith, c .before .before .before .before .before .before .before .before .before .before .before .before .pre .2)) (omega (arith, c .before .before .before .if2 .left)) (c .before .before .before .before .before .loop .inv .1 .seats (c .before .if4 .taken)))
 
 stood-requires : tie.Need-stood-requires Inv-loop2 μ-loop2 Inv-loop3 μ-loop3 Inv-loop μ-loop
 stood-requires c κs =
-    let x = c .before .before .before .before .together .ensures _ (pair-starts (walking-own (c .before .before .before .before .before .before .before .before .before .before .loop .inv .0)) (c .before .before .before .before .before .before .before .before .before .loop-test .taken) (c .before .before .before .before .before .before .before .before .if2 .left) (c .before .before .before .before .before .before .if4 .taken) refl (omega (arith, c .before .before .before .before .before .before .before .before .if2 .left)) (c .before .before .before .before .before .before .before .before .before .before .loop .inv .1 .seats (c .before .before .before .before .before .before .if4 .taken))) .0 in
-    side-stood (x .at .here) (omega arith) _ _ refl (omega arith)
+    let x = c .before .before .before .before .before .together .ensures _ (pair-starts (walking-own (c .before .before .before .before .before .before .before .before .before .before .before .loop .inv .0)) (c .before .before .before .before .before .before .before .before .before .before .loop-test .taken) (c .before .before .before .before .before .before .before .before .before .if2 .left) (c .before .before .before .before .before .before .before .if4 .taken) (omega (arith, c .before .before .before .before .before .before .before .before .before .before .before .before .before .before .before .before .before .before .pre .2)) (omega (arith, c .before .before .before .before .before .before .before .before .before .if2 .left)) (c .before .before .before .before .before .before .before .before .before .before .before .loop .inv .1 .seats (c .before .before .before .before .before .before .before .if4 .taken))) .0 in
+    side-stood (x .at .here) (omega arith) _ _ refl refl
 
 mul-ms-2 : tie.Need-mul-ms-2 Inv-loop2 μ-loop2 Inv-loop3 μ-loop3 Inv-loop μ-loop
-mul-ms-2 c = omega (arith, c .before .before .before .before .before .before .before .if4 .taken, c .before .before .before .before .before .before .before .before .before .before .before .before .before .before .before .before .before .before .pre .0 .few)
+mul-ms-2 c = omega (arith, c .before .before .before .before .before .before .before .before .if4 .taken, c .before .before .before .before .before .before .before .before .before .before .before .before .before .before .before .before .before .before .before .pre .0 .few)
 
 array-set-from-ms-2 : tie.Need-array-set-from-ms-2 Inv-loop2 μ-loop2 Inv-loop3 μ-loop3 Inv-loop μ-loop
-array-set-from-ms-2 c = omega (arith, c .before .before .before .before .before .before .before .if4 .taken, c .before .before .before .before .before .before .before .before .before .before .before .before .before .before .before .before .before .before .pre .0 .few)
+array-set-from-ms-2 c = omega (arith, c .before .before .before .before .before .before .before .before .if4 .taken, c .before .before .before .before .before .before .before .before .before .before .before .before .before .before .before .before .before .before .before .pre .0 .few)
 
 sub-stood : tie.Need-sub-stood Inv-loop2 μ-loop2 Inv-loop3 μ-loop3 Inv-loop μ-loop
 sub-stood c =
-    let x = c .before .before .before .before .before .before .together .ensures _ (pair-starts (walking-own (c .before .before .before .before .before .before .before .before .before .before .before .before .loop .inv .0)) (c .before .before .before .before .before .before .before .before .before .before .before .loop-test .taken) (c .before .before .before .before .before .before .before .before .before .before .if2 .left) (c .before .before .before .before .before .before .before .before .if4 .taken) refl (omega (arith, c .before .before .before .before .before .before .before .before .before .before .if2 .left)) (c .before .before .before .before .before .before .before .before .before .before .before .before .loop .inv .1 .seats (c .before .before .before .before .before .before .before .before .if4 .taken))) .0 in
+    let x = c .before .before .before .before .before .together .ensures _ (pair-starts (walking-own (c .before .before .before .before .before .before .before .before .before .before .before .loop .inv .0)) (c .before .before .before .before .before .before .before .before .before .before .loop-test .taken) (c .before .before .before .before .before .before .before .before .before .if2 .left) (c .before .before .before .before .before .before .before .if4 .taken) (omega (arith, c .before .before .before .before .before .before .before .before .before .before .before .before .before .before .before .before .before .before .pre .2)) (omega (arith, c .before .before .before .before .before .before .before .before .before .if2 .left)) (c .before .before .before .before .before .before .before .before .before .before .before .loop .inv .1 .seats (c .before .before .before .before .before .before .before .if4 .taken))) .0 in
+    x .at .here .low
+
+sub-stood-2 : tie.Need-sub-stood-2 Inv-loop2 μ-loop2 Inv-loop3 μ-loop3 Inv-loop μ-loop
+sub-stood-2 c =
+    let x = c .before .before .before .before .before .before .before .together .ensures _ (pair-starts (walking-own (c .before .before .before .before .before .before .before .before .before .before .before .before .before .loop .inv .0)) (c .before .before .before .before .before .before .before .before .before .before .before .before .loop-test .taken) (c .before .before .before .before .before .before .before .before .before .before .before .if2 .left) (c .before .before .before .before .before .before .before .before .before .if4 .taken) (omega (arith, c .before .before .before .before .before .before .before .before .before .before .before .before .before .before .before .before .before .before .before .before .pre .2)) (omega (arith, c .before .before .before .before .before .before .before .before .before .before .before .if2 .left)) (c .before .before .before .before .before .before .before .before .before .before .before .before .before .loop .inv .1 .seats (c .before .before .before .before .before .before .before .before .before .if4 .taken))) .0 in
     x .at .there .low
 
 stood-requires-2 : tie.Need-stood-requires-2 Inv-loop2 μ-loop2 Inv-loop3 μ-loop3 Inv-loop μ-loop
 stood-requires-2 c κs =
-    let x = c .before .before .before .before .before .before .together .ensures _ (pair-starts (walking-own (c .before .before .before .before .before .before .before .before .before .before .before .before .loop .inv .0)) (c .before .before .before .before .before .before .before .before .before .before .before .loop-test .taken) (c .before .before .before .before .before .before .before .before .before .before .if2 .left) (c .before .before .before .before .before .before .before .before .if4 .taken) refl (omega (arith, c .before .before .before .before .before .before .before .before .before .before .if2 .left)) (c .before .before .before .before .before .before .before .before .before .before .before .before .loop .inv .1 .seats (c .before .before .before .before .before .before .before .before .if4 .taken))) .0 in
+    let x = c .before .before .before .before .before .before .before .together .ensures _ (pair-starts (walking-own (c .before .before .before .before .before .before .before .before .before .before .before .before .before .loop .inv .0)) (c .before .before .before .before .before .before .before .before .before .before .before .before .loop-test .taken) (c .before .before .before .before .before .before .before .before .before .before .before .if2 .left) (c .before .before .before .before .before .before .before .before .before .if4 .taken) (omega (arith, c .before .before .before .before .before .before .before .before .before .before .before .before .before .before .before .before .before .before .before .before .pre .2)) (omega (arith, c .before .before .before .before .before .before .before .before .before .before .before .if2 .left)) (c .before .before .before .before .before .before .before .before .before .before .before .before .before .loop .inv .1 .seats (c .before .before .before .before .before .before .before .before .before .if4 .taken))) .0 in
     side-stood (x .at .there) (omega arith) _ _ refl refl
 
 add-ms : tie.Need-add-ms Inv-loop2 μ-loop2 Inv-loop3 μ-loop3 Inv-loop μ-loop
-add-ms c = omega (arith, c .before .before .before .before .before .before .before .before .before .if4 .taken, c .before .before .before .before .before .before .before .before .before .before .before .before .before .before .before .before .before .before .before .before .pre .0 .few)
+add-ms c = omega (arith, c .before .before .before .before .before .before .before .before .before .before .if4 .taken, c .before .before .before .before .before .before .before .before .before .before .before .before .before .before .before .before .before .before .before .before .before .pre .0 .few)
 
 mul-ms-3 : tie.Need-mul-ms-3 Inv-loop2 μ-loop2 Inv-loop3 μ-loop3 Inv-loop μ-loop
-mul-ms-3 c = omega (arith, c .before .before .before .before .before .before .before .before .before .if4 .taken, c .before .before .before .before .before .before .before .before .before .before .before .before .before .before .before .before .before .before .before .before .pre .0 .few)
+mul-ms-3 c = omega (arith, c .before .before .before .before .before .before .before .before .before .before .if4 .taken, c .before .before .before .before .before .before .before .before .before .before .before .before .before .before .before .before .before .before .before .before .before .pre .0 .few)
 
 array-set-from-ms-3 : tie.Need-array-set-from-ms-3 Inv-loop2 μ-loop2 Inv-loop3 μ-loop3 Inv-loop μ-loop
-array-set-from-ms-3 c = omega (arith, c .before .before .before .before .before .before .before .before .before .if4 .taken, c .before .before .before .before .before .before .before .before .before .before .before .before .before .before .before .before .before .before .before .before .pre .0 .few)
+array-set-from-ms-3 c = omega (arith, c .before .before .before .before .before .before .before .before .before .before .if4 .taken, c .before .before .before .before .before .before .before .before .before .before .before .before .before .before .before .before .before .before .before .before .before .pre .0 .few)
 
 lower-requires : tie.Need-lower-requires Inv-loop2 μ-loop2 Inv-loop3 μ-loop3 Inv-loop μ-loop
 lower-requires c κs = tt
@@ -253,7 +262,7 @@ cast-goes-on : tie.Need-cast-goes-on Inv-loop2 μ-loop2 Inv-loop3 μ-loop3 Inv-l
 cast-goes-on c = omega (arith, any-next (c .loop2 .inv .0) (c .loop2 .inv .1) .fits)
 
 goes-on-requires : tie.Need-goes-on-requires Inv-loop2 μ-loop2 Inv-loop3 μ-loop3 Inv-loop μ-loop
-goes-on-requires c κs = floor-fits (c .loop2 .inv .0)
+goes-on-requires c κs = tt
 
 cast-here : tie.Need-cast-here Inv-loop2 μ-loop2 Inv-loop3 μ-loop3 Inv-loop μ-loop
 cast-here c = omega (arith, any-next (c .before .before .before .loop2 .inv .0) (c .before .before .before .loop2 .inv .1) .fits)
@@ -279,7 +288,7 @@ carried-requires c κs = tt
 scored-requires : tie.Need-scored-requires Inv-loop2 μ-loop2 Inv-loop3 μ-loop3 Inv-loop μ-loop
 scored-requires c κs =
     let k = c .before .before .before .before .before .loop2 .inv .1 in
-    let y = midway-here (c .before .before .before .before .before .loop2 .inv .0) (any-next (c .before .before .before .before .before .loop2 .inv .0) k) (goes-by (c .before .before .before .before .before .loop2 .t) (c .before .before .before .before .before .before .before .before .before .before .before .before .before .before .before .before .before .args .q) refl (omega (arith, c .before .before .before .before .before .before .before .before .if2 .left)) (c .before .before .before .before .goes-on .ensures .0 (c .before .before .before .if5 .taken))) (c .carried .ensures) in
+    let y = midway-here (c .before .before .before .before .before .loop2 .inv .0) (any-next (c .before .before .before .before .before .loop2 .inv .0) k) (goes-by (c .before .before .before .before .before .loop2 .t) _ (c .before .before .before .before .before .before .before .before .before .before .before .before .before .before .before .before .before .args .q) (omega (arith, c .before .before .before .before .before .before .before .before .before .before .before .before .before .before .before .before .before .pre .2)) (omega (arith, c .before .before .before .before .before .before .before .before .if2 .left)) (c .before .before .before .before .goes-on .ensures .0 (c .before .before .before .if5 .taken))) (c .carried .ensures) in
     let n = any-next y k in
     posting-scores y n refl
 
@@ -292,7 +301,7 @@ array-read-gone c = omega arith
 gone-requires : tie.Need-gone-requires Inv-loop2 μ-loop2 Inv-loop3 μ-loop3 Inv-loop μ-loop
 gone-requires c κs =
     let k = c .before .before .before .before .before .before .loop2 .inv .1 in
-    let y = midway-here (c .before .before .before .before .before .before .loop2 .inv .0) (any-next (c .before .before .before .before .before .before .loop2 .inv .0) k) (goes-by (c .before .before .before .before .before .before .loop2 .t) (c .before .before .before .before .before .before .before .before .before .before .before .before .before .before .before .before .before .before .args .q) refl (omega (arith, c .before .before .before .before .before .before .before .before .before .if2 .left)) (c .before .before .before .before .before .goes-on .ensures .0 (c .before .before .before .before .if5 .taken))) (c .before .carried .ensures) in
+    let y = midway-here (c .before .before .before .before .before .before .loop2 .inv .0) (any-next (c .before .before .before .before .before .before .loop2 .inv .0) k) (goes-by (c .before .before .before .before .before .before .loop2 .t) _ (c .before .before .before .before .before .before .before .before .before .before .before .before .before .before .before .before .before .before .args .q) (omega (arith, c .before .before .before .before .before .before .before .before .before .before .before .before .before .before .before .before .before .before .pre .2)) (omega (arith, c .before .before .before .before .before .before .before .before .before .if2 .left)) (c .before .before .before .before .before .goes-on .ensures .0 (c .before .before .before .before .if5 .taken))) (c .before .carried .ensures) in
     let n = any-next y k in
     let g = posting-goes y n refl in
     (g .0, g .1, omega arith, k .nexts _ (any-place y k))
@@ -334,14 +343,14 @@ array-write-next c = omega (arith, c .before .before .before .before .before .be
 loop2-less : tie.Need-loop2-less Inv-loop2 μ-loop2 Inv-loop3 μ-loop3 Inv-loop μ-loop
 loop2-less c =
     let k = c .before .before .before .before .before .before .before .before .before .before .before .before .before .before .before .before .before .before .loop2 .inv .1 in
-    let y = midway-here (c .before .before .before .before .before .before .before .before .before .before .before .before .before .before .before .before .before .before .loop2 .inv .0) (any-next (c .before .before .before .before .before .before .before .before .before .before .before .before .before .before .before .before .before .before .loop2 .inv .0) k) (goes-by (c .before .before .before .before .before .before .before .before .before .before .before .before .before .before .before .before .before .before .loop2 .t) (c .before .before .before .before .before .before .before .before .before .before .before .before .before .before .before .before .before .before .before .before .before .before .before .before .before .before .before .before .before .before .args .q) refl (omega (arith, c .before .before .before .before .before .before .before .before .before .before .before .before .before .before .before .before .before .before .before .before .before .if2 .left)) (c .before .before .before .before .before .before .before .before .before .before .before .before .before .before .before .before .before .goes-on .ensures .0 (c .before .before .before .before .before .before .before .before .before .before .before .before .before .before .before .before .if5 .taken))) (c .before .before .before .before .before .before .before .before .before .before .before .before .before .carried .ensures) in
+    let y = midway-here (c .before .before .before .before .before .before .before .before .before .before .before .before .before .before .before .before .before .before .loop2 .inv .0) (any-next (c .before .before .before .before .before .before .before .before .before .before .before .before .before .before .before .before .before .before .loop2 .inv .0) k) (goes-by (c .before .before .before .before .before .before .before .before .before .before .before .before .before .before .before .before .before .before .loop2 .t) _ (c .before .before .before .before .before .before .before .before .before .before .before .before .before .before .before .before .before .before .before .before .before .before .before .before .before .before .before .before .before .before .args .q) (omega (arith, c .before .before .before .before .before .before .before .before .before .before .before .before .before .before .before .before .before .before .before .before .before .before .before .before .before .before .before .before .before .before .pre .2)) (omega (arith, c .before .before .before .before .before .before .before .before .before .before .before .before .before .before .before .before .before .before .before .before .before .if2 .left)) (c .before .before .before .before .before .before .before .before .before .before .before .before .before .before .before .before .before .goes-on .ensures .0 (c .before .before .before .before .before .before .before .before .before .before .before .before .before .before .before .before .if5 .taken))) (c .before .before .before .before .before .before .before .before .before .before .before .before .before .carried .ensures) in
     let n = any-next y k in
     omega (arith, any-rises y k _ refl (c .before .before .before .before .before .before .before .before .before .before .before .gone .ensures .0) (c .before .before .before .before .before .before .before .before .before .before .before .gone .ensures .1) (c .before .before .before .before .before .enter .ensures), n .fits)
 
 loop2-again : tie.Need-loop2-again Inv-loop2 μ-loop2 Inv-loop3 μ-loop3 Inv-loop μ-loop
 loop2-again c =
     let k = c .before .before .before .before .before .before .before .before .before .before .before .before .before .before .before .before .before .before .loop2 .inv .1 in
-    let y = midway-here (c .before .before .before .before .before .before .before .before .before .before .before .before .before .before .before .before .before .before .loop2 .inv .0) (any-next (c .before .before .before .before .before .before .before .before .before .before .before .before .before .before .before .before .before .before .loop2 .inv .0) k) (goes-by (c .before .before .before .before .before .before .before .before .before .before .before .before .before .before .before .before .before .before .loop2 .t) (c .before .before .before .before .before .before .before .before .before .before .before .before .before .before .before .before .before .before .before .before .before .before .before .before .before .before .before .before .before .before .args .q) refl (omega (arith, c .before .before .before .before .before .before .before .before .before .before .before .before .before .before .before .before .before .before .before .before .before .if2 .left)) (c .before .before .before .before .before .before .before .before .before .before .before .before .before .before .before .before .before .goes-on .ensures .0 (c .before .before .before .before .before .before .before .before .before .before .before .before .before .before .before .before .if5 .taken))) (c .before .before .before .before .before .before .before .before .before .before .before .before .before .carried .ensures) in
+    let y = midway-here (c .before .before .before .before .before .before .before .before .before .before .before .before .before .before .before .before .before .before .loop2 .inv .0) (any-next (c .before .before .before .before .before .before .before .before .before .before .before .before .before .before .before .before .before .before .loop2 .inv .0) k) (goes-by (c .before .before .before .before .before .before .before .before .before .before .before .before .before .before .before .before .before .before .loop2 .t) _ (c .before .before .before .before .before .before .before .before .before .before .before .before .before .before .before .before .before .before .before .before .before .before .before .before .before .before .before .before .before .before .args .q) (omega (arith, c .before .before .before .before .before .before .before .before .before .before .before .before .before .before .before .before .before .before .before .before .before .before .before .before .before .before .before .before .before .before .pre .2)) (omega (arith, c .before .before .before .before .before .before .before .before .before .before .before .before .before .before .before .before .before .before .before .before .before .if2 .left)) (c .before .before .before .before .before .before .before .before .before .before .before .before .before .before .before .before .before .goes-on .ensures .0 (c .before .before .before .before .before .before .before .before .before .before .before .before .before .before .before .before .if5 .taken))) (c .before .before .before .before .before .before .before .before .before .before .before .before .before .carried .ensures) in
     let n = any-next y k in
     (midway-on y n refl (c .before .before .before .before .before .before .before .before .before .before .before .gone .ensures .0) refl (c .before .before .before .before .before .before .before .before .before .before .before .before .scored .ensures), keyed-on _ k (any-place y k) (c .before .before .before .before .before .enter .ensures) (c .before .before .before .before .before .before .before .before .before .before .before .gone .result .mention) _ (in-mentions y n) (c .before .before .before .before .before .before .before .before .before .before .before .gone .ensures .1) (c .next-key .ensures))
 
@@ -349,19 +358,19 @@ loop2-again c =
 come : (c : tie.Joined3 Inv-loop2 μ-loop2 Inv-loop3 μ-loop3 Inv-loop μ-loop) → let a = c .before .before .before .before .before .before .before .before .before .before .args in let l = c .before .before .before .loop in let os = meantOf (a .image .now) (a .q) (l .ms) in
     Come (a .image .now) os (a .pre .now) (a .bar) (a .j) (a .q) (a .budget) (runBy (a .image .now) os (a .bar) (a .j) (a .q) (a .budget) (l .past) (l .count)) (l .past) (c .if3 .ms) (c .if3 .past) (c .if3 .t) (c .if3 .top)
     × Kept (a .image .now) (c .if3 .ms) (a .j) (a .q) (c .if3 .a) (c .if3 .b) (c .if3 .c) (c .if3 .d) (c .if3 .next) (c .if3 .room) (c .if3 .pair) (c .if3 .top)
-    × (length (c .if3 .room) ≡ 132)
+    × (length (c .if3 .room) ≡ 1058)
 come c =
     let long = c .before .before .before .loop .inv .0 .long in
     ⊎-elim
     (λ v.
-    let x = v .2 .ensures _ (alone-starts (walking-own (c .before .before .before .loop .inv .0)) (c .before .before .loop-test .taken) (c .before .if2 .left) (v .0 .taken) refl (omega (arith, c .before .if2 .left))) in
+    let x = v .2 .ensures _ (alone-starts (walking-own (c .before .before .before .loop .inv .0)) (c .before .before .loop-test .taken) (c .before .if2 .left) (v .0 .taken) (omega (arith, c .before .before .before .before .before .before .before .before .before .before .pre .2)) (omega (arith, c .before .if2 .left))) in
     rw (v .6, v .7, v .8, v .15, v .16)
     (come-alone x (v .5 .ensures), record { seats = λ two. absurd (omega (arith, v .0 .taken)); keyed = λ one two. absurd (one (v .0 .taken)) }, c .before .before .before .loop .inv .2))
     (⊎-elim
     (λ v.
-    let x = v .3 .ensures _ (pair-starts (walking-own (c .before .before .before .loop .inv .0)) (c .before .before .loop-test .taken) (c .before .if2 .left) (v .1 .taken) refl (omega (arith, c .before .if2 .left)) (c .before .before .before .loop .inv .1 .seats (v .1 .taken))) in
-    rw (v .12, v .13, v .14, v .20, v .21, v .22)
-    (come-pair (x .0) long (v .8 .ensures) (v .10 .ensures) (v .11 .ensures) (x .1), record { seats = λ two. seats-again (x .0) long (v .8 .ensures) (v .10 .ensures); keyed = λ one two. absurd (two (v .1 .taken)) }, x .0 .at .long))
+    let x = v .3 .ensures _ (pair-starts (walking-own (c .before .before .before .loop .inv .0)) (c .before .before .loop-test .taken) (c .before .if2 .left) (v .1 .taken) (omega (arith, c .before .before .before .before .before .before .before .before .before .before .pre .2)) (omega (arith, c .before .if2 .left)) (c .before .before .before .loop .inv .1 .seats (v .1 .taken))) in
+    rw (v .13, v .14, v .15, v .21, v .22, v .23)
+    (come-pair (x .0) long (v .9 .ensures) (v .11 .ensures) (v .12 .ensures) (x .1), record { seats = λ two. seats-again (x .0) long (v .9 .ensures) (v .11 .ensures); keyed = λ one two. absurd (two (v .1 .taken)) }, x .0 .at .long))
     (λ v.
     rw (v .5, v .6, v .7, v .8, v .9, v .10, v .11, v .12, v .14, v .15)
     (come-any (v .2 .inv .0) (v .2 .inv .1) (v .3 .ensures .1 (v .4 .left)), record { seats = λ two. absurd (v .1 .left two); keyed = λ one two. v .2 .inv .1 }, c .before .before .before .loop .inv .2)))
@@ -482,8 +491,9 @@ walk-spec =
     Inv-loop
     μ-loop
     sub-n
-    mul-floor
-    element-copy-out-floor
+    mul-slack
+    element-copy-out-slack
+    sub-slack
     array-copy-out-blank
     blank-requires
     mul-paired
@@ -513,10 +523,11 @@ walk-spec =
     array-set-from-ms
     key-requires
     together-requires
+    sub-stood
     stood-requires
     mul-ms-2
     array-set-from-ms-2
-    sub-stood
+    sub-stood-2
     stood-requires-2
     add-ms
     mul-ms-3
