@@ -16,6 +16,7 @@ ghost use Rattle.pair.specs.Room.{furtherAt, Unpacked, spotAt, Passed};
 
 // Where the second mention's part of the room starts, and the place after that.
 pub const PART: usize = 66;
+
 pub const AFTER: usize = 67;
 
 // The one mention above rank j where it is left, with the last document plus one and the tally there.

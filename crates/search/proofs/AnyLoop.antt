@@ -167,6 +167,14 @@ module _ {s : List ℕ} {q k budget N : ℕ} {pruned : Bool} {pre : List ℕ} {l
     pub going-starts : Starts s os pre j q past count
     going-starts = between-starts s (modeFor pruned) (some-by pruned) μs (g .fit) q k budget N (g .whole) (g .few) (g .docs) (g .small) os (rowsOf table) b count j past (w .here) pre (g .sums)
 
+    -- P(j) is at most the bar
+    pub rank-low : (j ≤ limit) × (getD pre j 0 ≤ b)
+    rank-low =
+        let at : j ≡ asideOf pre limit b = w .here .rank ∙ sym (g .ranks b) in
+        let low : P (ordered μs) j ≤ b = rw (w .here .rank) (aside-in-low (modeFor pruned) (ordered μs) b) in
+        let rank : j ≤ limit = omega (arith, last-le (λ i. atMost b (getD pre i 0)) limit) in
+        (rank, omega (arith, g .sums j (omega (arith, g .limited))))
+
     means-now : meantOf s q os ≡ ordered μs
     means-now = placed-meant (w .here .placed) (ordered-length μs ∙ g .whole) (omega (arith, w .here .long, g .few))
 
@@ -242,11 +250,7 @@ module _ {s : List ℕ} {q k budget N : ℕ} {pruned : Bool} {pre : List ℕ} {l
               bar-rises s (modeFor pruned) (some-by pruned) μs (g .fit) q k budget N (g .whole) (g .few) (g .docs) (g .small) os (rowsOf table) b count j past (w .here) (r .past - 1) (r .count) (rowsOf next) (omega (arith, doc-is (ends Entered is .0))) (rw (there, rows) entered-reached)
 
           pub rank-below : (j ≤ limit) × (getD pre j 0 ≤ kth k (rowsOf next))
-          rank-below =
-              let at : j ≡ asideOf pre limit b = w .here .rank ∙ sym (g .ranks b) in
-              let low : P (ordered μs) j ≤ b = rw (w .here .rank) (aside-in-low (modeFor pruned) (ordered μs) b) in
-              let rank : j ≤ limit = omega (arith, last-le (λ i. atMost b (getD pre i 0)) limit) in
-              (rank, omega (arith, g .sums j (omega (arith, g .limited)), risen))
+          rank-below = (rank-low .0, omega (arith, rank-low .1, risen))
 
           pub rank-up : {rank : ℕ} → rank ≡ asideOf pre limit (kth k (rowsOf next)) → j ≤ rank
           rank-up is-rank = omega (arith, w .here .rank, is-rank, g .ranks (kth k (rowsOf next)), aside-in-up (modeFor pruned) (ordered μs) b (kth k (rowsOf next)) risen)

@@ -165,11 +165,13 @@ loop-less-2 c =
 
 loop-again-2 : tie.Need-loop-again-2 Inv-loop μ-loop
 loop-again-2 c =
-    let some : 0 < min (c .before .before .before .before .passed .result .key) (c .before .before .passed2 .result .key) = rw (c .before .lower2 .ensures) at (not-zero (c .before .lower2 .result) (c .if2 .left)) in
-    (λ f k₀.
-    let l = c .before .before .before .before .before .before .before .before .before .before .before .before .before .loop .inv .0 f k₀ in
-    let m = pair-visit (l .at) (c .before .before .before .before .before .before .before .before .before .before .before .before .before .loop .top) (c .before .before .before .before .before .before .before .before .before .before .before .before .before .loop .inv .1) (c .before .before .before .before .before .before .before .before .before .before .before .before .goes-on .ensures .0 (c .before .before .before .before .before .before .before .before .before .before .before .if1 .taken)) (c .before .before .before .before .before .before .before .before .carried .ensures) in
-    rw (c .before .before .before .before .before .before .before .before .before .before .before .before .before .loop .inv .1) (changed-in l (changed-on (l .at) m (c .before .before .before .before .before .before .before .weigh .ensures) (rw (c .before .before .before .before .before .before .before .before .before .before .before .before .before .loop .inv .1) at (c .before .before .before .before .before .before .scored .ensures)) (c .before .before .before .before .passed .ensures) (c .before .before .passed2 .ensures) some)), c .before .lower2 .ensures)
+    let some : 0 < min (c .before .before .before .before .passed .result .key) (c .before .before .passed2 .result .key) = rw (c .before .lower2 .ensures) at (not-zero (c .before .lower2 .result) (c .if2 .left)) in (
+      λ f k₀.
+          let l = c .before .before .before .before .before .before .before .before .before .before .before .before .before .loop .inv .0 f k₀ in
+          let m = pair-visit (l .at) (c .before .before .before .before .before .before .before .before .before .before .before .before .before .loop .top) (c .before .before .before .before .before .before .before .before .before .before .before .before .before .loop .inv .1) (c .before .before .before .before .before .before .before .before .before .before .before .before .goes-on .ensures .0 (c .before .before .before .before .before .before .before .before .before .before .before .if1 .taken)) (c .before .before .before .before .before .before .before .before .carried .ensures) in
+          rw (c .before .before .before .before .before .before .before .before .before .before .before .before .before .loop .inv .1) (changed-in l (changed-on (l .at) m (c .before .before .before .before .before .before .before .weigh .ensures) (rw (c .before .before .before .before .before .before .before .before .before .before .before .before .before .loop .inv .1) at (c .before .before .before .before .before .before .scored .ensures)) (c .before .before .before .before .passed .ensures) (c .before .before .passed2 .ensures) some)),
+      c .before .lower2 .ensures,
+    )
 
 -- the room filled anew, for the first mention or for the second
 changed : (c : tie.Joined3 Inv-loop μ-loop) → let s = c .before .before .before .before .before .before .before .before .before .before .before .before .before .before .before .before .before .before .before .before .before .before .before in let l = c .before .before .before .before .before .before .before .before .before .before .before .before .before .before .before .loop in
@@ -192,10 +194,12 @@ loop-less c =
     falls-up (rw (c .before .before .before .before .before .before .before .before .before .before .before .before .before .before .before .before .loop .inv .1, c .lower3 .ensures) (changed (c .before) (c .before .before .before .before .before .before .before .before .before .before .before .before .before .before .before .before .before .before .before .before .before .before .before .before .pre .0) (c .before .before .before .before .before .before .before .before .before .before .before .before .before .before .before .before .before .before .before .before .before .before .before .before .pre .1) w .up)) (pair-cast (w .at) (c .before .before .before .before .before .before .before .before .before .before .before .before .before .before .before .before .loop .top) (c .before .before .before .before .before .before .before .before .before .before .before .before .before .before .before .before .loop .inv .1))
 
 loop-again : tie.Need-loop-again Inv-loop μ-loop
-loop-again c =
-    (λ f k₀.
-    let w = c .before .before .before .before .before .before .before .before .before .before .before .before .before .before .before .before .loop .inv .0 f k₀ in
-    rw (c .before .before .before .before .before .before .before .before .before .before .before .before .before .before .before .before .loop .inv .1) (changed-in w (changed (c .before) f k₀ w)), c .lower3 .ensures)
+loop-again c = (
+  λ f k₀.
+      let w = c .before .before .before .before .before .before .before .before .before .before .before .before .before .before .before .before .loop .inv .0 f k₀ in
+      rw (c .before .before .before .before .before .before .before .before .before .before .before .before .before .before .before .before .loop .inv .1) (changed-in w (changed (c .before) f k₀ w)),
+  c .lower3 .ensures,
+)
 
 same-length : tie.Need-same-length Inv-loop μ-loop
 same-length c = c .before .before .loop .inv .0 (c .before .before .before .before .before .before .before .before .before .before .pre .0) (c .before .before .before .before .before .before .before .before .before .before .pre .1) .at .long ∙ sym (c .before .before .before .before .before .before .before .before .before .before .pre .1 .long)

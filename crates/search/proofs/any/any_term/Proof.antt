@@ -14,11 +14,11 @@ use Rattle.mentions.specs.MeantLaws.{sums-rise}
 use Rattle.meaning.specs.Score as sc
 use Rattle.visit.specs.Stand.{docOf}
 use Rattle.visit.specs.Walk.{meantOf}
-use Rattle.search.proofs.AnyLoop.{Ground, Going, served-fit, served-length, ordered-small, ordered-meant, ordered-long, ordered-stands, ordered-sums, limit-ranks, going-first, going-starts, going-finished, going-stopped, going-entered, entered-under, rank-below, rank-up, going-falls, coming-same, coming-least}
+use Rattle.search.proofs.AnyLoop.{Ground, Going, served-fit, served-length, ordered-small, ordered-meant, ordered-long, ordered-stands, ordered-sums, limit-ranks, going-first, going-starts, rank-low, going-finished, going-stopped, going-entered, entered-under, rank-below, rank-up, going-falls, coming-same, coming-least}
 
 abbrev Inv-loop : tie.InvT-loop
 Inv-loop image q k budget docs pruned os₀ pre limit table₀ bar₀ count₀ j₀ past₀ room₀ os table bar count j past room =
-    ((μs : List sc.Mention) (g : Ground image q k budget docs pruned pre limit os₀ μs) → Going g os table bar count j past) × (length room ≡ 132)
+    ((μs : List sc.Mention) (g : Ground image q k budget docs pruned pre limit os₀ μs) → Going g os table bar count j past) × (length room ≡ 1058)
 
 abbrev μ-loop : tie.MeasureT-loop
 μ-loop image q k budget docs pruned os₀ pre limit table₀ bar₀ count₀ j₀ past₀ room₀ os table bar count j past room =
@@ -102,7 +102,9 @@ slice-aggregate-walk c = search needs
 -- src/any.rt:32:21
 walk-requires : tie.Need-walk-requires Inv-loop μ-loop
 walk-requires c κs =
-    (going-starts (ground (c .before .before .before .before .before .before .before)) (c .before .before .loop .inv .0 _ (ground (c .before .before .before .before .before .before .before))), c .before .before .loop .inv .1)
+    let g = ground (c .before .before .before .before .before .before .before) in
+    let w = c .before .before .loop .inv .0 _ g in
+    (going-starts g w, c .before .before .loop .inv .1, rank-low g w .1)
 
 -- src/any.rt:36:17
 enum-told : tie.Need-enum-told Inv-loop μ-loop
