@@ -5,13 +5,13 @@ use mentions::Mention;
 use mentions::Tally;
 ghost use mathlib.Core.Path.{_≡_};
 ghost use mathlib.Core.Bool.{true, false};
-ghost use Prim.Native.Nat.{_/_, _%_, _≤_, _<_, min};
+ghost use Prim.Native.Nat.{_+_, _/_, _%_, _≤_, _<_, min};
 ghost use lib.ListN.{length};
 ghost use Rattle.meaning.specs.Image.{indexOf};
 ghost use Rattle.cursor.specs.Sound.{Sound};
 ghost use Rattle.pair.specs.Alone.{SomeAlone, EachAlone};
 ghost use Rattle.pair.specs.Pair.{seated, Seats, SomePair, EachPair};
-ghost use Rattle.pair.specs.Room.{furtherAt, Unpacked, spotAt, Passed};
+ghost use Rattle.pair.specs.Room.{furtherAt, Begun, Filling, Unpacked, spotAt, Passed};
 
 // Where the second mention's part of the room starts, and the place after that.
 pub const PART: usize = 66;
@@ -90,20 +90,56 @@ fn pick(go: bool, a: u64, b: u64) -> u64
     if go { a } else { b }
 }
 
+// The keys of the postings after the cursor's own, into the places of the room up to `end`: near the image's end or anywhere.
+fn unpack_near(image: &[u8], c: Cursor, p: usize, base: usize, end: usize, room: &mut [u64])
+    requires { ⌜ Begun (now image) c p base end (now room) ⌝ }
+    ensures { λ _. ⌜ Filling (now (image .entry)) c p base (now (room .entry)) end (now (room .exit)) ⌝ }
+{
+    let mut c = c;
+    let mut at = base + 1;
+    while at < end {
+        c = cursor::take_next(image, c);
+        room[at] = visit::key(c, p);
+        at += 1;
+    }
+}
+
+// The same far from the image's end: that end is not looked for at each posting, and the key goes up by each gap.
+fn unpack_far(image: &[u8], c: Cursor, p: usize, base: usize, end: usize, room: &mut [u64])
+    requires { ⌜ Begun (now image) c p base end (now room) × (c .at / 8 + 272 ≤ length (now image)) ⌝ }
+    ensures { λ _. ⌜ Filling (now (image .entry)) c p base (now (room .entry)) end (now (room .exit)) ⌝ }
+{
+    let step = c.step as usize;
+    let mut bit = c.at as usize;
+    let mut high = (c.past as u64) * 4096 + (p as u64) * 256;
+    let mut at = base + 1;
+    while at < end {
+        let x = cursor::bits_within(image, bit, step);
+        high = high + x / 256 * 4096 + 4096;
+        room[at] = high + x % 256;
+        bit += step;
+        at += 1;
+    }
+}
+
 // Up to `most` keys of a mention's postings, from its own on in its block, into the places of the room from `base` on; 0 after the last.
 fn unpack(image: &[u8], c: Cursor, p: usize, base: usize, most: usize, room: &mut [u64])
     requires { ⌜ Sound (now image) (indexOf (now image) .docs) c × (p < 16) × (base ≤ 66) × (0 < most) × (most ≤ 64) × (length (now room) ≡ 132) ⌝ }
     ensures { λ _. ⌜ Unpacked (now (image .entry)) c p base (now (room .entry)) (now (room .exit)) ⌝ }
 {
-    let mut c = c;
     room[base] = visit::key(c, p);
-    let mut at = base + 1;
-    while at < base + most && 0 < c.rest {
-        c = cursor::take_next(image, c);
-        room[at] = visit::key(c, p);
-        at += 1;
+    let rest = c.rest as usize;
+    let end = if rest < most {
+        base + 1 + rest
+    } else {
+        base + most
+    };
+    if (c.at as usize) / 8 + 272 <= image.len() {
+        unpack_far(image, c, p, base, end, room);
+    } else {
+        unpack_near(image, c, p, base, end, room);
     }
-    room[at] = 0;
+    room[end] = 0;
 }
 
 // The room filled from a mention's posting on, and its first place.
