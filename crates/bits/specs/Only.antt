@@ -12,3 +12,6 @@ word-only part a b p q = p ∙ sym q
 
 pub first-only : (part : List ℕ) (n a b : ℕ) → a ≡ bitsAt part 0 n → b ≡ bitsAt part 0 n → a ≡ b
 first-only part n a b p q = p ∙ sym q
+
+pub within-only : (part : List ℕ) (shift n a b : ℕ) → a ≡ bitsAt part shift n → b ≡ bitsAt part shift n → a ≡ b
+within-only part shift n a b p q = p ∙ sym q

@@ -57,16 +57,22 @@ word-short s h =
     ∙ ap (λ (x : ℕ). b * x) (sym (pow-add 2 1 (63 - l)) ∙ ap (λ (x : ℕ). 2 ^ x) sum)
     ∙ omega (arith, rw (whole, none) at (bits-add s 0 l (64 - l)))
 
--- a field of n bits from bit r on, by a shift to the left and two to the right
-pub shifts-field : (s : List ℕ) (r n : ℕ) → r < 8 → n ≤ 57 → bitsAt s 0 64 * 2 ^ r % 2 ^ 64 / 2 ^ 1 / 2 ^ (63 - n) ≡ bitsAt s r n
-shifts-field s r n h k =
+-- a field of n bits from bit r on, by a shift to the left and one to the right
+pub shifts-within : (s : List ℕ) (r n : ℕ) → r + n ≤ 64 → bitsAt s 0 64 * 2 ^ r % 2 ^ 64 / 2 ^ (64 - n) ≡ bitsAt s r n
+shifts-within s r n h =
     let x = bitsAt s 0 64 in
     let t = 64 - n - r in
-    let right : 1 + (63 - n) ≡ r + t = omega arith in
+    let right : 64 - n ≡ r + t = omega arith in
     let whole : n + (r + t) ≡ 64 = omega arith in
     let parts : r + n + t ≡ 64 = omega arith in
-    shr-shr (x * 2 ^ r % 2 ^ 64) 1 (63 - n)
-    ∙ ap (λ (y : ℕ). x * 2 ^ r % 2 ^ 64 / 2 ^ y) right
+    ap (λ (y : ℕ). x * 2 ^ r % 2 ^ 64 / 2 ^ y) right
     ∙ rw whole at (field (x * 2 ^ r) n (r + t))
     ∙ ap (λ (y : ℕ). y % 2 ^ n) (sym (shr-shr (x * 2 ^ r) r t) ∙ ap (λ (y : ℕ). y / 2 ^ t) (shl-shr x r))
     ∙ rw (parts, zero-add r) at (bits-within s 0 r n t)
+
+-- the same by two shifts to the right, where n may be 0
+pub shifts-field : (s : List ℕ) (r n : ℕ) → r < 8 → n ≤ 57 → bitsAt s 0 64 * 2 ^ r % 2 ^ 64 / 2 ^ 1 / 2 ^ (63 - n) ≡ bitsAt s r n
+shifts-field s r n h k =
+    let x = bitsAt s 0 64 in
+    let right : 1 + (63 - n) ≡ 64 - n = omega arith in
+    shr-shr (x * 2 ^ r % 2 ^ 64) 1 (63 - n) ∙ ap (λ (y : ℕ). x * 2 ^ r % 2 ^ 64 / 2 ^ y) right ∙ shifts-within s r n (omega arith)

@@ -66,3 +66,11 @@ pub fn field(part: &[u8], shift: usize, n: usize) -> u64
 {
     window(part) << shift >> 1 >> (63 - n)
 }
+
+// The n bits from bit `shift` on, of a part of at least eight bytes.
+pub fn within(part: &[u8], shift: usize, n: usize) -> u64
+    requires { ⌜ (0 < n) × (shift + n ≤ 64) × (8 ≤ length (now part)) ⌝ }
+    ensures { λ r. ⌜ r ≡ bitsAt (now (part .entry)) shift n ⌝ }
+{
+    word(part) << shift >> (64 - n)
+}

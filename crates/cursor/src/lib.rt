@@ -1,7 +1,7 @@
 // Reading back the postings of an accepted image, "A list is a row of blocks": a cursor goes over one list, and nothing that judging has shown
 // is checked again. A contract settles which postings the cursor that is returned stands for; which record stands for them is left open.
 ghost use mathlib.Core.Path.{_≡_};
-ghost use Prim.Native.Nat.{_+_, _*_, _-_, _≤_, _<_};
+ghost use Prim.Native.Nat.{_+_, _*_, _-_, _/_, _≤_, _<_};
 ghost use lib.ListN.{length, drop};
 ghost use Rattle.meaning.specs.Bits.{bitsAt};
 ghost use Rattle.meaning.specs.Image.{indexOf, Accepted};
@@ -41,6 +41,14 @@ fn bits_at(image: &[u8], at: u32, n: u32) -> u64
 {
     let byte = (at / 8) as usize;
     bits::field(&image[byte..], (at % 8) as usize, n as usize)
+}
+
+// The n bits from bit `at` on, where eight bytes are there from its byte on.
+pub fn bits_within(image: &[u8], at: usize, n: usize) -> u64
+    requires { ⌜ (0 < n) × (n ≤ 57) × (at / 8 + 8 ≤ length (now image)) ⌝ }
+    ensures { λ r. ⌜ r ≡ bitsAt (now (image .entry)) at n ⌝ }
+{
+    bits::within(&image[at / 8..], at % 8, n)
 }
 
 // The next posting of the block: its gap and its impact are read as one number.

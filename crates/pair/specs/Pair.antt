@@ -66,7 +66,7 @@ pub record Side (s : List ℕ) (c : Cursor) (p base : ℕ) (room : List ℕ) (x 
 
 -- two mentions at the places of a pair in one room
 pub record Seats (s : List ℕ) (m n : Mention) (p : Pair) (room : List ℕ) : Type 0 where
-  pub long : length room ≡ 1058
+  pub long : length room ≡ 132
   pub one : m ≡ seated s (p .one) (p .x .place - 1)
   pub other : n ≡ seated s (p .two) (p .y .place - 67)
   pub here : Side s (p .one .cursor) 0 0 room (p .x)
@@ -77,7 +77,7 @@ pub record PairAt (s : List ℕ) (f : Frame) (a b : Mention) (x y : Spot) (room 
   pub two : f .q ≡ f .j + 2
   pub spare : f .budget ≡ limit + f .q
   pub low : f .bar ≡ slack + getD (f .pre) (f .j) 0
-  pub long : length room ≡ 1058
+  pub long : length room ≡ 132
   pub one : getD (f .ms) (f .j) none ≡ seated s a (x .place - 1)
   pub other : getD (f .ms) (f .j + 1) none ≡ seated s b (y .place - 67)
   pub here : Side s (a .cursor) 0 0 room x
@@ -201,7 +201,7 @@ side-first {base = base} {room′ = room′} sound u e =
     })
 
 -- both parts of a room that were filled
-pub seats-first : {s : List ℕ} {one two : Mention} {room room′ room″ : List ℕ} {x y : Spot} → Sound s (indexOf s .docs) (one .cursor) → Sound s (indexOf s .docs) (two .cursor) → length room ≡ 1058 →
+pub seats-first : {s : List ℕ} {one two : Mention} {room room′ room″ : List ℕ} {x y : Spot} → Sound s (indexOf s .docs) (one .cursor) → Sound s (indexOf s .docs) (two .cursor) → length room ≡ 132 →
     Unpacked s (one .cursor) 0 0 room room′ → x ≡ spotAt room′ 0 → Unpacked s (two .cursor) 1 66 room′ room″ → y ≡ spotAt room″ 66 →
     Seats s one two (record { one = one; two = two; x = x; y = y }) room″
 seats-first sound sound′ long u e u′ e′ =
@@ -351,10 +351,10 @@ module _ {s : List ℕ} {f : Frame} {a b : Mention} {x y : Spot} {room : List �
   pair-cast top e = rw e (pair-next .1 .fits)
 
   -- the places are in the room
-  pub x-room : x .place < 1057
+  pub x-room : x .place < 131
   x-room = omega (arith, side-few (k .here))
 
-  pub y-room : y .place < 1057
+  pub y-room : y .place < 131
   y-room = omega (arith, side-few (k .there), k .there .low)
 
 -- the first mention's posting is scored

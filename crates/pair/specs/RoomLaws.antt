@@ -1,18 +1,19 @@
 -- Laws of the room: a cursor further in its block, and the keys that are put in one by one.
-use mathlib.Core.Path.{_≡_, refl, sym, ap, subst, _∙_}
+use mathlib.Core.Path.{_≡_, refl, ap, _∙_}
 use mathlib.Core.Logic.{_⊎_, ⊎-elim}
 use mathlib.Core.List.{List}
-use Prim.Native.Nat.{ℕ, zero, suc, _+_, _*_, _-_, _≤_, _<_}
+use Prim.Native.Nat.{ℕ, zero, suc, _+_, _*_, _-_, _/_, _%_, _≤_, _<_}
 use native.Mathlib.Omega.{arith}
-use lib.ListN.{length, getD, set, length-set}
+use lib.ListN.{length, set, length-set}
 use lib.Seq.{getD-set-same, getD-set-other}
 use Rattle.lists.specs.Places.{at-place}
+use Rattle.meaning.specs.Bits.{bitsAt}
 use Rattle.cursor.specs.declared.Cursor.{Cursor}
 use Rattle.cursor.specs.Sound.{Sound}
 use Rattle.cursor.specs.Steps.{takenAt}
-use Rattle.cursor.specs.StepLaws.{taking}
-use Rattle.visit.specs.Key.{keyOf}
-use Rattle.pair.specs.Room.{furtherAt, Unpacked}
+use Rattle.cursor.specs.StepLaws.{taking, taken-fields}
+use Rattle.visit.specs.Key.{keyOf, taken-current}
+use Rattle.pair.specs.Room.{furtherAt, Begun, Filling, Unpacked}
 
 -- what stays and what falls on the way
 module _ (s : List ℕ) (c : Cursor) where
@@ -36,6 +37,12 @@ module _ (s : List ℕ) (c : Cursor) where
   further-last zero = refl
   further-last (suc k) = further-last k
 
+-- one posting further
+pub further-next : (s : List ℕ) (c : Cursor) {base at : ℕ} → base < at → furtherAt s c (at - base) ≡ takenAt s (furtherAt s c (at - base - 1))
+further-next s c {base} {at} low =
+    let e : at - base ≡ suc (at - base - 1) = omega arith in
+    ap (furtherAt s c) e
+
 -- as far as the block goes the cursor stays sound
 pub further-sound : {s : List ℕ} {N : ℕ} {c : Cursor} → Sound s N c → (k : ℕ) → k ≤ c .rest → Sound s N (furtherAt s c k)
 further-sound r zero h = r
@@ -43,34 +50,21 @@ further-sound {s} {N} {c} r (suc k) h =
     let before = further-sound r k (omega arith) in
     taking s N (furtherAt s c k) (before .ready) (omega (arith, further-rest s c k)) .sound
 
--- the room while it is filled up to place `at`, from a room that has the first key
-pub record Filling (s : List ℕ) (c : Cursor) (p base : ℕ) (room : List ℕ) (at : ℕ) (room′ : List ℕ) (c′ : Cursor) : Type 0 where
-  pub low : base < at
-  pub high : at ≤ base + 64
-  pub most : at - base ≤ c .rest + 1
-  pub here : c′ ≡ furtherAt s c (at - base - 1)
-  pub keys : (x : ℕ) → x < at - base → getD room′ (base + x) 0 ≡ keyOf (furtherAt s c x) p
-  pub others : (y : ℕ) → (y < base) ⊎ (base + 65 ≤ y) → getD room′ y 0 ≡ getD room y 0
-  pub long : length room′ ≡ length room
-
 -- a place that is none of those that are filled
 elsewhere : {base at y : ℕ} → base ≤ at → at < base + 65 → (y < base) ⊎ (base + 65 ≤ y) → y ≡ at → ⊥
 elsewhere low high o e = ⊎-elim (λ h. omega arith) (λ h. omega arith) o
 
 -- the first key is in
-pub filling-first : {s : List ℕ} {c : Cursor} {p base : ℕ} (room : List ℕ) {k : ℕ} → base + 65 ≤ length room → k ≡ keyOf c p →
-    Filling s c p base (set room base k) (base + 1) (set room base k) c
-filling-first {s} {c} {p} {base} room {k} wide e =
-    let first : base + 1 - base - 1 ≡ 0 = omega arith in
+pub filling-first : {s : List ℕ} {c : Cursor} {p base end : ℕ} {room : List ℕ} → Begun s c p base end room → Filling s c p base room (base + 1) room
+filling-first {base = base} b =
     record {
       low = omega arith;
       high = omega arith;
       most = omega arith;
-      here = rw first refl;
       keys = λ x h.
           let z : x ≡ 0 = omega arith in
           let at : base + 0 ≡ base = omega arith in
-          rw (z, at) (getD-set-same room base k 0 (omega arith) ∙ e);
+          rw (z, at) (b .first);
       others = λ y o. refl;
       long = refl;
     }
@@ -86,23 +80,19 @@ unpacked-from {base = base} room k u =
     }
 
 module _ {s : List ℕ} {c : Cursor} {p base : ℕ} {room : List ℕ} (wide : base + 65 ≤ length room) where
-  module _ {at : ℕ} {room′ : List ℕ} {c′ : Cursor} (f : Filling s c p base room at room′ c′) where
-    pub filling-more : {d : Cursor} {k : ℕ} → at < base + 64 → 0 < c′ .rest → d ≡ takenAt s c′ → k ≡ keyOf d p → Filling s c p base room (at + 1) (set room′ at k) d
-    filling-more {d} {k} lt some next e =
+  module _ {at : ℕ} {room′ : List ℕ} (f : Filling s c p base room at room′) where
+    pub filling-more : {k : ℕ} → at < base + 64 → at - base ≤ c .rest → k ≡ keyOf (furtherAt s c (at - base)) p → Filling s c p base room (at + 1) (set room′ at k)
+    filling-more {k} lt some e =
         let low = f .low in
-        let rest = ap (λ (x : Cursor). x .rest) (f .here) ∙ further-rest s c (at - base - 1) in
-        let further : at + 1 - base - 1 ≡ suc (at - base - 1) = omega arith in
-        let is : d ≡ furtherAt s c (at + 1 - base - 1) = rw further (next ∙ ap (takenAt s) (f .here)) in
         record {
           low = omega arith;
           high = omega arith;
           most = omega arith;
-          here = is;
           keys = λ x h.
               at-place (λ (v : ℕ). v ≡ keyOf (furtherAt s c x) p) room′ at k 0 (base + x) (omega (arith, f .long))
               (λ at-x.
-              let there : at + 1 - base - 1 ≡ x = omega arith in
-              e ∙ ap (λ (y : Cursor). keyOf y p) (rw there at is))
+              let there : at - base ≡ x = omega arith in
+              rw there at e)
               (λ ne. f .keys x (omega arith));
           others = λ y o. getD-set-other room′ at y k 0 (elsewhere (omega arith) (omega arith) o) ∙ f .others y o;
           long = simp length-set (f .long);
@@ -126,6 +116,34 @@ module _ {s : List ℕ} {c : Cursor} {p base : ℕ} {room : List ℕ} (wide : ba
           long = simp length-set (f .long);
         }
 
-    -- its cursor is sound
-    pub filling-sound : {N : ℕ} → Sound s N c → Sound s N c′
-    filling-sound {N} r = subst (Sound s N) (sym (f .here)) (further-sound r (at - base - 1) (omega (arith, f .most, f .low)))
+-- k postings further, without its cursor: the bit of the next posting, and the key but for its impact
+pub record Ahead (s : List ℕ) (c : Cursor) (p k bit high : ℕ) : Type 0 where
+  pub at : bit ≡ furtherAt s c k .at
+  pub near : bit ≤ c .at + 32 * k
+  pub past : high ≡ furtherAt s c k .past * 4096 + p * 256
+
+-- the next posting from there, out of the number x that its bits are
+pub record Read (s : List ℕ) (c : Cursor) (p k bit high step x : ℕ) : Type 0 where
+  pub small : high + x / 256 * 4096 + 4096 < 68719476736
+  pub key : high + x / 256 * 4096 + 4096 + x % 256 ≡ keyOf (furtherAt s c (suc k)) p
+  pub ahead : Ahead s c p (suc k) (bit + step) (high + x / 256 * 4096 + 4096)
+
+pub ahead-read : {s : List ℕ} {N : ℕ} {c : Cursor} {p k bit high step x : ℕ} → Sound s N c → p < 16 → k < c .rest → Ahead s c p k bit high →
+    c .step ≡ step → x ≡ bitsAt s bit step → Read s c p k bit high step x
+ahead-read {s} {c = c} {k = k} {x = x} r low some a same e =
+    let d = furtherAt s c k in
+    let step : d .step ≡ c .step = further-step s c k in
+    let bits : x ≡ bitsAt s (d .at) (d .step) = cc (e, a .at, step, same) in
+    let fields = taken-fields s d x (omega (arith, r .ready .step-least, step)) bits in
+    let past = ap (λ (z : Cursor). z .past) fields in
+    let impact = ap (λ (z : Cursor). z .impact) fields in
+    let known = taken-current (further-sound r k (omega arith)) (omega (arith, further-rest s c k)) in
+    record {
+      small = omega (arith, past, known .0, a .past);
+      key = omega (arith, past, impact, known .1, a .past);
+      ahead = record {
+        at = omega (arith, a .at, step);
+        near = omega (arith, a .near, r .ready .step-most);
+        past = omega (arith, past, a .past);
+      };
+    }

@@ -5,14 +5,14 @@ use mentions::Mention;
 use mentions::Tally;
 ghost use mathlib.Core.Path.{_≡_};
 ghost use mathlib.Core.Bool.{true, false};
-ghost use Prim.Native.Nat.{_-_, _/_, _%_, _≤_, _<_, min};
+ghost use Prim.Native.Nat.{_+_, _-_, _/_, _%_, _≤_, _<_, min};
 ghost use lib.ListN.{length};
 ghost use Rattle.meaning.specs.Image.{indexOf};
 ghost use Rattle.cursor.specs.Sound.{Sound};
 ghost use Rattle.pair.specs.Alone.{SomeAlone, EachAlone};
 ghost use Rattle.visit.specs.Stand.{Stands, Goes};
 ghost use Rattle.pair.specs.Pair.{seated, Stood, Seats, SomePair, EachPair};
-ghost use Rattle.pair.specs.Room.{furtherAt, Unpacked, spotAt, Passed};
+ghost use Rattle.pair.specs.Room.{furtherAt, Begun, Filling, Unpacked, spotAt, Passed};
 
 // Where the second mention's part of the room starts, and the place after that.
 pub const PART: usize = 66;
@@ -83,25 +83,61 @@ fn pick(go: bool, a: u64, b: u64) -> u64
     if go { a } else { b }
 }
 
-// Up to `most` keys of a mention's postings, from its own on in its block, into the places of the room from `base` on; 0 after the last.
-fn unpack(image: &[u8], c: Cursor, p: usize, base: usize, most: usize, room: &mut [u64])
-    requires { ⌜ Sound (now image) (indexOf (now image) .docs) c × (p < 16) × (base ≤ 990) × (0 < most) × (most ≤ 64) × (length (now room) ≡ 1058) ⌝ }
-    ensures { λ _. ⌜ Unpacked (now (image .entry)) c p base (now (room .entry)) (now (room .exit)) ⌝ }
+// The keys of the postings after the cursor's own, into the places of the room up to `end`: near the image's end or anywhere.
+fn unpack_near(image: &[u8], c: Cursor, p: usize, base: usize, end: usize, room: &mut [u64])
+    requires { ⌜ Begun (now image) c p base end (now room) ⌝ }
+    ensures { λ _. ⌜ Filling (now (image .entry)) c p base (now (room .entry)) end (now (room .exit)) ⌝ }
 {
     let mut c = c;
-    room[base] = visit::key(c, p);
     let mut at = base + 1;
-    while at < base + most && 0 < c.rest {
+    while at < end {
         c = cursor::take_next(image, c);
         room[at] = visit::key(c, p);
         at += 1;
     }
-    room[at] = 0;
+}
+
+// The same far from the image's end: that end is not looked for at each posting, and the key goes up by each gap.
+fn unpack_far(image: &[u8], c: Cursor, p: usize, base: usize, end: usize, room: &mut [u64])
+    requires { ⌜ Begun (now image) c p base end (now room) × (c .at / 8 + 272 ≤ length (now image)) ⌝ }
+    ensures { λ _. ⌜ Filling (now (image .entry)) c p base (now (room .entry)) end (now (room .exit)) ⌝ }
+{
+    let step = c.step as usize;
+    let mut bit = c.at as usize;
+    let mut high = (c.past as u64) * 4096 + (p as u64) * 256;
+    let mut at = base + 1;
+    while at < end {
+        let x = cursor::bits_within(image, bit, step);
+        high = high + x / 256 * 4096 + 4096;
+        room[at] = high + x % 256;
+        bit += step;
+        at += 1;
+    }
+}
+
+// Up to `most` keys of a mention's postings, from its own on in its block, into the places of the room from `base` on; 0 after the last.
+fn unpack(image: &[u8], c: Cursor, p: usize, base: usize, most: usize, room: &mut [u64])
+    requires { ⌜ Sound (now image) (indexOf (now image) .docs) c × (p < 16) × (base ≤ 66) × (0 < most) × (most ≤ 64) × (length (now room) ≡ 132) ⌝ }
+    ensures { λ _. ⌜ Unpacked (now (image .entry)) c p base (now (room .entry)) (now (room .exit)) ⌝ }
+{
+    room[base] = visit::key(c, p);
+    let rest = c.rest as usize;
+    let end = if rest < most {
+        base + 1 + rest
+    } else {
+        base + most
+    };
+    if (c.at as usize) / 8 + 272 <= image.len() {
+        unpack_far(image, c, p, base, end, room);
+    } else {
+        unpack_near(image, c, p, base, end, room);
+    }
+    room[end] = 0;
 }
 
 // The first place of a part of the room.
 fn opened(room: &[u64], base: usize) -> Spot
-    requires { ⌜ (base ≤ 990) × (length (now room) ≡ 1058) ⌝ }
+    requires { ⌜ (base ≤ 66) × (length (now room) ≡ 132) ⌝ }
     ensures { λ r. ⌜ r ≡ spotAt (now (room .entry)) base ⌝ }
 {
     Spot {
@@ -113,7 +149,7 @@ fn opened(room: &[u64], base: usize) -> Spot
 
 // The next place where `go` holds, else the same.
 fn passed(go: bool, s: Spot, room: &[u64]) -> Spot
-    requires { ⌜ (s .place < 1057) × (length (now room) ≡ 1058) ⌝ }
+    requires { ⌜ (s .place < 131) × (length (now room) ≡ 132) ⌝ }
     ensures { λ r. ⌜ Passed (now (room .entry)) go s r ⌝ }
 {
     let step = pick(go, 1, 0) as usize;
@@ -163,7 +199,7 @@ fn refilled(
     base: usize,
     room: &mut [u64],
 ) -> Mention
-    requires { ⌜ Stood (now image) m key n × (p < 16) × (base ≤ 990) × (length (now room) ≡ 1058)
+    requires { ⌜ Stood (now image) m key n × (p < 16) × (base ≤ 66) × (length (now room) ≡ 132)
         × Stands (now image) (seated (now image) m n .cursor .past - 1) (seated (now image) m n)
         × (seated (now image) m n .cursor .past ≡ 4294967295 → ⊥) ⌝ }
     ensures { λ r. ⌜ Goes (now (image .entry)) (seated (now (image .entry)) m n .cursor .past) (seated (now (image .entry)) m n) r
@@ -195,7 +231,7 @@ pub fn blank(m: Mention) -> Pair
 pub fn paired(image: &[u8], one: Mention, two: Mention, room: &mut [u64]) -> Pair
     requires { ⌜ Sound (now image) (indexOf (now image) .docs) (one .cursor)
         × Sound (now image) (indexOf (now image) .docs) (two .cursor)
-        × (length (now room) ≡ 1058) ⌝ }
+        × (length (now room) ≡ 132) ⌝ }
     ensures { λ r. ⌜ Seats (now (image .entry)) one two r (now (room .exit)) ⌝ }
 {
     unpack(image, one.cursor, 0, 0, 8, room);

@@ -115,7 +115,7 @@ pub fn walk(
     budget: u32,
     room: &mut [u64],
 ) -> Visit
-    requires { ⌜ Starts (now image) ms (now pre) j q past count × (length (now room) ≡ 1058) × (getD (now pre) j 0 ≤ bar) ⌝ }
+    requires { ⌜ Starts (now image) ms (now pre) j q past count × (length (now room) ≡ 132) × (getD (now pre) j 0 ≤ bar) ⌝ }
     ensures runs { λ r. ⌜ runOf (indexOf (now (image .entry)) .docs) r ≡ runBy (now (image .entry)) (meantOf (now (image .entry)) q ms) bar j q budget past count ⌝ }
     ensures some { λ r. ⌜ 0 < r .past ⌝ }
     ensures leaves { λ r. ⌜ (r .turn ≡ Entered → Leaves (now (image .entry)) (meantOf (now (image .entry)) q ms) j r) ⌝ }

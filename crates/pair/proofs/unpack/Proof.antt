@@ -1,91 +1,107 @@
--- `unpack`: each turn puts in one key.
-use Prim.Native.Nat.{_+_, _-_, _≤_}
+-- `unpack`: the first key, those after it in one of two ways, and the 0 after them.
+use Prim.Native.Nat.{_+_, _≤_}
+use mathlib.Core.Path.{_∙_}
+use mathlib.Core.Logic.{⊎-elim}
 use native.Mathlib.Omega.{arith}
-use lib.ListN.{length, length-set}
-use borrow.Author.Tests.{ltb-true}
-use Rattle.pair.specs.RoomLaws.{Filling, filling-first, filling-more, filling-end, filling-sound, unpacked-from}
+use borrow.Author.Needs.{needs}
+use lib.ListN.{length, set, length-set}
+use lib.Seq.{getD-set-same}
+use Rattle.pair.specs.Room.{Begun, Filling}
+use Rattle.pair.specs.RoomLaws.{filling-end, unpacked-from}
 use Rattle.pair.proofs.unpack.Statement.{statement}
 use Rattle.pair.proofs.unpack.Tie as tie
 
-abbrev Inv-loop : tie.InvT-loop
-Inv-loop image p base most room₀ c₀ at₀ room c at = Filling image c₀ p base room₀ at room c × (base + 65 ≤ length room₀)
-
-abbrev μ-loop : tie.MeasureT-loop
-μ-loop image p base most room₀ c₀ at₀ room c at = base + 64 - at
-
-key-requires : tie.Need-key-requires Inv-loop μ-loop
+key-requires : tie.Need-key-requires
 key-requires c κs = c .before .before .pre .1
 
-mul-room : tie.Need-mul-room Inv-loop μ-loop
+mul-room : tie.Need-mul-room
 mul-room c = omega (arith, c .before .before .before .pre .2)
 
-add-at : tie.Need-add-at Inv-loop μ-loop
-add-at c = omega (arith, c .before .before .before .pre .2)
-
-slice-write-room : tie.Need-slice-write-room Inv-loop μ-loop
+slice-write-room : tie.Need-slice-write-room
 slice-write-room c = omega (arith, c .before .before .before .pre .2, c .before .before .before .pre .5)
 
-loop-holds : tie.Need-loop-holds Inv-loop μ-loop
-loop-holds c = let s = c .before .before .before in
-    let room = s .args .room .now in
-    (filling-first room (omega (arith, s .pre .2, s .pre .5)) (c .key .ensures), omega (arith, s .pre .2, s .pre .5, length-set room (s .args .base) (c .key .result)))
+cast-rest : tie.Need-cast-rest
+cast-rest c = search needs
 
-add-loop : tie.Need-add-loop Inv-loop μ-loop
-add-loop c = omega (arith, c .before .before .before .before .pre .2)
+add-end : tie.Need-add-end
+add-end c = omega (arith, c .before .before .before .before .before .pre .2)
 
-take-next-requires : tie.Need-take-next-requires Inv-loop μ-loop
-take-next-requires c κs = (filling-sound (c .before .before .before .loop .inv .1) (c .before .before .before .loop .inv .0) (c .before .before .before .before .before .before .before .pre .0), ltb-true _ _ (c .if1 .taken))
+add-end-2 : tie.Need-add-end-2
+add-end-2 c = let s = c .before .before .before .before .before in omega (arith, s .pre .2, s .pre .4)
 
-key-requires-2 : tie.Need-key-requires-2 Inv-loop μ-loop
-key-requires-2 c κs = c .before .before .before .before .before .before .before .before .pre .1
+add-end-3 : tie.Need-add-end-3
+add-end-3 c = let s = c .before .before .before .before .before in omega (arith, s .pre .2, s .pre .4)
 
-mul-room-2 : tie.Need-mul-room-2 Inv-loop μ-loop
-mul-room-2 c = omega (arith, c .before .before .before .before .before .before .before .before .before .pre .2, c .before .before .before .before .before .loop .inv .0 .high)
+-- the first key is in, and `end` is no further than the block goes, nor than 64 places
+begun : (c : tie.Joined1) → let s = c .before .before .before .before .before in let a = s .args in
+    Begun (a .image .now) (a .c) (a .p) (a .base) (c .if1 .end) (set (a .room .now) (a .base) (c .before .before .key .result))
+begun c =
+    let s = c .before .before .before .before .before in
+    let a = s .args in
+    let k = c .before .before .key .result in
+    let wide : a .base + 65 ≤ length (a .room .now) = omega (arith, s .pre .2, s .pre .5) in
+    record {
+      sound = s .pre .0;
+      mention = s .pre .1;
+      small = omega (arith, s .pre .2);
+      wide = omega (arith, wide, length-set (a .room .now) (a .base) k);
+      low = ⊎-elim (λ w. omega (arith, w .1)) (λ w. omega (arith, w .1, s .pre .3)) (c .if1 .came);
+      high = ⊎-elim (λ w. omega (arith, w .0 .taken, w .1, s .pre .4)) (λ w. omega (arith, w .1, s .pre .4)) (c .if1 .came);
+      most = ⊎-elim (λ w. omega (arith, w .1)) (λ w. omega (arith, w .0 .left, w .1)) (c .if1 .came);
+      first = getD-set-same (a .room .now) (a .base) k 0 (omega (arith, wide)) ∙ c .before .before .key .ensures;
+    }
 
-add-at-2 : tie.Need-add-at-2 Inv-loop μ-loop
-add-at-2 c = omega (arith, c .before .before .before .before .before .before .before .before .before .pre .2, c .before .before .before .before .before .loop .inv .0 .high)
+cast-if2 : tie.Need-cast-if2
+cast-if2 c = search needs
 
-mul-room-3 : tie.Need-mul-room-3 Inv-loop μ-loop
-mul-room-3 c = omega (arith, c .before .before .before .before .before .pre .2, c .before .loop .inv .0 .high)
+add-if2 : tie.Need-add-if2
+add-if2 c = search needs
 
-slice-write-room-2 : tie.Need-slice-write-room-2 Inv-loop μ-loop
-slice-write-room-2 c = omega (arith, c .before .before .before .before .before .loop .inv .0 .high, c .before .before .before .before .before .loop .inv .0 .long, c .before .before .before .before .before .loop .inv .1)
+unpack-far-requires : tie.Need-unpack-far-requires
+unpack-far-requires c κs = (begun (c .before .before .before), omega (arith, c .before .if2 .taken))
 
-slice-write-room-3 : tie.Need-slice-write-room-3 Inv-loop μ-loop
-slice-write-room-3 c = omega (arith, c .before .loop .inv .0 .high, c .before .loop .inv .0 .long, c .before .loop .inv .1)
+unpack-near-requires : tie.Need-unpack-near-requires
+unpack-near-requires c κs = begun (c .before .before .before)
 
-loop-less : tie.Need-loop-less Inv-loop μ-loop
-loop-less c = omega (arith, c .before .before .before .before .loop-test .taken, c .before .before .before .before .before .before .before .before .before .pre .4)
+-- the keys are in, whichever way they came
+keys : (c : tie.Joined2) → let j = c .before .before in let s = j .before .before .before .before .before in let a = s .args in
+    Filling (a .image .now) (a .c) (a .p) (a .base) (set (a .room .now) (a .base) (j .before .before .key .result)) (j .if1 .end) (c .if2 .room)
+keys c = ⊎-elim (λ w. rw (w .5) (w .2 .ensures)) (λ w. rw (w .5) (w .2 .ensures)) (c .if2 .came)
 
-loop-again : tie.Need-loop-again Inv-loop μ-loop
-loop-again c = (filling-more (c .before .before .before .before .before .loop .inv .1) (c .before .before .before .before .before .loop .inv .0) (omega (arith, c .before .before .before .before .loop-test .taken, c .before .before .before .before .before .before .before .before .before .pre .4)) (ltb-true _ _ (c .before .before .if1 .taken)) (c .before .take-next .ensures) (c .key2 .ensures), c .before .before .before .before .before .loop .inv .1)
+mul-room-2 : tie.Need-mul-room-2
+mul-room-2 c =
+    let b = begun (c .before .before .before) in
+    omega (arith, b .high, b .small)
 
-same-length : tie.Need-same-length Inv-loop μ-loop
-same-length c = unpacked-from (c .before .before .before .before .before .args .room .now) (c .before .before .key .result) (filling-end (c .before .loop .inv .1) (c .before .loop .inv .0)) .long
+slice-write-room-2 : tie.Need-slice-write-room-2
+slice-write-room-2 c =
+    let b = begun (c .before .before .before) in
+    omega (arith, b .high, b .wide, keys (c .before) .long)
 
-returns : tie.Need-returns Inv-loop μ-loop
-returns c = unpacked-from (c .before .before .before .before .before .args .room .now) (c .before .before .key .result) (filling-end (c .before .loop .inv .1) (c .before .loop .inv .0))
+returns : tie.Need-returns
+returns c =
+    let j = c .before .before .before in
+    unpacked-from (j .before .before .before .before .before .args .room .now) (j .before .before .key .result) (filling-end (begun j .wide) (keys (c .before)))
+
+same-length : tie.Need-same-length
+same-length c = returns c .long
 
 pub unpack-spec : {M : Type 1} → statement M
 unpack-spec =
     tie.close
     (tie.spec
-    Inv-loop
-    μ-loop
     key-requires
     mul-room
     slice-write-room
-    add-at
-    loop-holds
-    add-loop
-    take-next-requires
-    key-requires-2
+    cast-rest
+    add-end
+    add-end-2
+    add-end-3
+    cast-if2
+    add-if2
+    unpack-far-requires
+    unpack-near-requires
     mul-room-2
     slice-write-room-2
-    add-at-2
-    loop-less
-    loop-again
-    mul-room-3
-    slice-write-room-3
     same-length
     returns)

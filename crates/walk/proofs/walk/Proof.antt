@@ -49,7 +49,7 @@ abbrev Inv-loop : tie.InvT-loop
 Inv-loop image pre j q past count bar budget room₀ n slack ms₀ past₀ count₀ a₀ b₀ c₀ d₀ next₀ pair₀ top₀ room ms past' count' a b c d next pair top =
     Walking image (meantOf image q ms₀) pre bar j q budget (runBy image (meantOf image q ms₀) bar j q budget past₀ count₀) ms past' count'
     × Kept image ms j q a b c d next room pair top
-    × (length room ≡ 1058)
+    × (length room ≡ 132)
 
 abbrev μ-loop : tie.MeasureT-loop
 μ-loop image pre j q past count bar budget room₀ n slack ms₀ past₀ count₀ a₀ b₀ c₀ d₀ next₀ pair₀ top₀ room ms past' count' a b c d next pair top =
@@ -131,7 +131,7 @@ begin-requires c κs =
 -- what is read ahead at the start
 kept-first : (c : tie.Joined1 Inv-loop2 μ-loop2 Inv-loop3 μ-loop3 Inv-loop μ-loop) →
     Kept (c .before .before .before .before .before .before .args .image .now) (c .before .before .before .before .before .before .args .ms) (c .before .before .before .before .before .before .args .j) (c .before .before .before .before .before .before .args .q) (c .if1 .a) (c .if1 .b) (c .if1 .c) (c .if1 .d) (c .if1 .next) (c .if1 .room) (c .if1 .pair) (c .if1 .top)
-    × (length (c .if1 .room) ≡ 1058)
+    × (length (c .if1 .room) ≡ 132)
 kept-first c =
     ⊎-elim
     (λ v. rw (v .7, v .13) (record { seats = λ two. v .4 .ensures; keyed = λ one two. absurd (two (v .0 .taken)) }, v .4 .ensures .long))
@@ -358,7 +358,7 @@ loop2-again c =
 come : (c : tie.Joined3 Inv-loop2 μ-loop2 Inv-loop3 μ-loop3 Inv-loop μ-loop) → let a = c .before .before .before .before .before .before .before .before .before .before .args in let l = c .before .before .before .loop in let os = meantOf (a .image .now) (a .q) (l .ms) in
     Come (a .image .now) os (a .pre .now) (a .bar) (a .j) (a .q) (a .budget) (runBy (a .image .now) os (a .bar) (a .j) (a .q) (a .budget) (l .past) (l .count)) (l .past) (c .if3 .ms) (c .if3 .past) (c .if3 .t) (c .if3 .top)
     × Kept (a .image .now) (c .if3 .ms) (a .j) (a .q) (c .if3 .a) (c .if3 .b) (c .if3 .c) (c .if3 .d) (c .if3 .next) (c .if3 .room) (c .if3 .pair) (c .if3 .top)
-    × (length (c .if3 .room) ≡ 1058)
+    × (length (c .if3 .room) ≡ 132)
 come c =
     let long = c .before .before .before .loop .inv .0 .long in
     ⊎-elim
