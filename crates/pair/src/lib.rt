@@ -5,14 +5,14 @@ use mentions::Mention;
 use mentions::Tally;
 ghost use mathlib.Core.Path.{_≡_};
 ghost use mathlib.Core.Bool.{true, false};
-ghost use Prim.Native.Nat.{_+_, _-_, _/_, _%_, _≤_, _<_, min};
+ghost use Prim.Native.Nat.{_+_, _-_, _/_, _%_, _≤_, _<_};
 ghost use lib.ListN.{length};
 ghost use Rattle.meaning.specs.Image.{indexOf};
 ghost use Rattle.cursor.specs.Sound.{Sound};
 ghost use Rattle.pair.specs.Alone.{SomeAlone, EachAlone};
 ghost use Rattle.visit.specs.Stand.{Stands, Goes};
 ghost use Rattle.pair.specs.Pair.{seated, Stood, Seats, SomePair, EachPair};
-ghost use Rattle.pair.specs.Room.{furtherAt, Begun, Filling, Unpacked, spotAt, Passed};
+ghost use Rattle.pair.specs.Room.{Begun, Filling, Unpacked, spotAt, Passed};
 
 // Where the second mention's part of the room starts, and the place after that.
 pub const PART: usize = 66;
@@ -26,7 +26,7 @@ pub struct Swept {
     pub tally: Tally,
 }
 
-// A place in the room of one mention's keys: the key there, and the one after it.
+// Where a mention is in its part of the room: its key, the place after that, and the key there.
 pub struct Spot {
     pub place: usize,
     pub key: u64,
@@ -67,13 +67,6 @@ pub fn alone(image: &[u8], m: Mention, slack: u32, limit: u32, past: u32, count:
         past: past,
         tally: t,
     }
-}
-
-// The lower of two numbers.
-pub fn lower(a: u64, b: u64) -> u64
-    ensures { λ r. ⌜ r ≡ min a b ⌝ }
-{
-    if b < a { b } else { a }
 }
 
 // The first of two numbers where `go` holds, else the second.
@@ -260,7 +253,7 @@ pub fn together(
     let mut y = p.y;
     let mut past = past;
     let mut t = Tally { sum: 0, count };
-    let mut top = lower(x.key, y.key);
+    let mut top = contest::lower(x.key, y.key);
     while visit::goes_on(t, slack, limit, (top / 4096) as u32, past) {
         let here = (top / 4096) as u32;
         let first = x.key < y.key;
@@ -273,7 +266,7 @@ pub fn together(
         past = here;
         x = passed(first, x, room);
         y = passed(second, y, room);
-        top = lower(x.key, y.key);
+        top = contest::lower(x.key, y.key);
         if top == 0 {
             if x.key == 0 {
                 let n = x.place - 2;
@@ -284,7 +277,7 @@ pub fn together(
                 b = refilled(image, b, room[n], n - PART, 1, PART, room);
                 y = opened(room, PART);
             }
-            top = lower(x.key, y.key);
+            top = contest::lower(x.key, y.key);
         }
     }
     let pair = Pair {

@@ -21,7 +21,6 @@ use Rattle.visit.specs.Stand.{pastOf, nextAt, Stands, Goes, Placed, Next
 use Rattle.visit.specs.Walk.{meantOf}
 use Rattle.visit.specs.NextLaws.{next-under, next-over}
 use Rattle.visit.specs.StandLaws.{stands-past, stands-least}
-use Rattle.visit.specs.PlacedLaws.{placed-P}
 use Rattle.visit.specs.Scoring.{Site, Scoring, scoring-first, scoring-skip, scoring-on, turned-hit, turn-scores, turn-goes, scoring-meant, all-scored}
 use Rattle.visit.specs.Looking.{Looking, looking-first, Visited, visited-all, visited-dropped}
 use Rattle.visit.specs.Walking.{Walking, Visiting, visiting, going-on, going-up}

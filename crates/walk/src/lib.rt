@@ -162,7 +162,7 @@ pub fn walk(
             ms[j] = one;
             let two = pair::stood(image, p.two, p.y.key, p.y.place - pair::AFTER);
             ms[j + 1] = two;
-            top = pair::lower(p.x.key, p.y.key);
+            top = contest::lower(p.x.key, p.y.key);
         } else {
             while visit::goes_on(t, slack, limit, (top / 4096) as u32, past) {
                 let here = (top / 4096) as u32;

@@ -34,7 +34,7 @@ add-t13 c =
     omega (arith, bits s, r .room, r .short)
 
 sub-t14 : tie.Need-sub-t14
-sub-t14 c = c .before .before .before .before .pre .1
+sub-t14 c = omega (arith, c .before .before .before .before .pre .1)
 
 returns-2 : tie.Need-returns-2
 returns-2 c =

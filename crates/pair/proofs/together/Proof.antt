@@ -1,5 +1,5 @@
 -- `together`: each turn scores one posting, of the first mention or of the second; where that one's part of the room is read out it is filled anew.
-use mathlib.Core.Path.{_≡_, refl, sym, _∙_}
+use mathlib.Core.Path.{_≡_, sym, _∙_}
 use mathlib.Core.Logic.{⊎-elim}
 use mathlib.Core.Bool.{Bool}
 use mathlib.Core.List.{List}
@@ -86,7 +86,7 @@ sub-n c =
     let m = pair-visit k (c .before .before .before .before .before .before .before .before .before .before .before .before .before .before .before .before .loop .top) (c .before .before .before .before .before .before .before .before .before .before .before .before .before .before .before .before .loop .inv .1) (c .before .before .before .before .before .before .before .before .before .before .before .before .before .before .before .goes-on .ensures .0 (c .before .before .before .before .before .before .before .before .before .before .before .before .before .before .if1 .taken)) (c .before .before .before .before .before .before .before .before .before .before .before .carried .ensures) in
     let w = c .before .before .before .before .before .before .before .before .before .before .weigh .ensures in
     let v = rw (c .before .before .before .before .before .before .before .before .before .before .before .before .before .before .before .before .loop .inv .1) at (c .before .before .before .before .before .before .before .before .before .scored .ensures) in
-    x-place k m w v (c .before .before .before .before .before .before .before .passed .ensures) (c .before .before .before .before .before .passed2 .ensures) (x-first k m w v (c .before .before .before .before .before .before .before .passed .ensures) (c .before .before .before .before .before .passed2 .ensures) (c .before .if3 .taken))
+    omega (arith, x-place k m w v (c .before .before .before .before .before .before .before .passed .ensures) (c .before .before .before .before .before .passed2 .ensures) (x-first k m w v (c .before .before .before .before .before .before .before .passed .ensures) (c .before .before .before .before .before .passed2 .ensures) (c .before .if3 .taken)))
 
 mul-refilled : tie.Need-mul-refilled Inv-loop μ-loop
 mul-refilled c =
@@ -119,7 +119,7 @@ sub-n-2 c =
     let m = pair-visit k (c .before .before .before .before .before .before .before .before .before .before .before .before .before .before .before .before .loop .top) (c .before .before .before .before .before .before .before .before .before .before .before .before .before .before .before .before .loop .inv .1) (c .before .before .before .before .before .before .before .before .before .before .before .before .before .before .before .goes-on .ensures .0 (c .before .before .before .before .before .before .before .before .before .before .before .before .before .before .if1 .taken)) (c .before .before .before .before .before .before .before .before .before .before .before .carried .ensures) in
     let w = c .before .before .before .before .before .before .before .before .before .before .weigh .ensures in
     let v = rw (c .before .before .before .before .before .before .before .before .before .before .before .before .before .before .before .before .loop .inv .1) at (c .before .before .before .before .before .before .before .before .before .scored .ensures) in
-    y-place k m w v (c .before .before .before .before .before .before .before .passed .ensures) (c .before .before .before .before .before .passed2 .ensures) (y-first k m w v (c .before .before .before .before .before .before .before .passed .ensures) (c .before .before .before .before .before .passed2 .ensures) (c .before .if3 .left) (sym (c .before .before .before .before .lower2 .ensures) ∙ c .before .before .before .if2 .taken)) .0
+    omega (arith, y-place k m w v (c .before .before .before .before .before .before .before .passed .ensures) (c .before .before .before .before .before .passed2 .ensures) (y-first k m w v (c .before .before .before .before .before .before .before .passed .ensures) (c .before .before .before .before .before .passed2 .ensures) (c .before .if3 .left) (sym (c .before .before .before .before .lower2 .ensures) ∙ c .before .before .before .if2 .taken)))
 
 mul-refilled-2 : tie.Need-mul-refilled-2 Inv-loop μ-loop
 mul-refilled-2 c =
@@ -137,7 +137,7 @@ sub-refilled c =
     let m = pair-visit k (c .before .before .before .before .before .before .before .before .before .before .before .before .before .before .before .before .before .loop .top) (c .before .before .before .before .before .before .before .before .before .before .before .before .before .before .before .before .before .loop .inv .1) (c .before .before .before .before .before .before .before .before .before .before .before .before .before .before .before .before .goes-on .ensures .0 (c .before .before .before .before .before .before .before .before .before .before .before .before .before .before .before .if1 .taken)) (c .before .before .before .before .before .before .before .before .before .before .before .before .carried .ensures) in
     let w = c .before .before .before .before .before .before .before .before .before .before .before .weigh .ensures in
     let v = rw (c .before .before .before .before .before .before .before .before .before .before .before .before .before .before .before .before .before .loop .inv .1) at (c .before .before .before .before .before .before .before .before .before .before .scored .ensures) in
-    y-place k m w v (c .before .before .before .before .before .before .before .before .passed .ensures) (c .before .before .before .before .before .before .passed2 .ensures) (y-first k m w v (c .before .before .before .before .before .before .before .before .passed .ensures) (c .before .before .before .before .before .before .passed2 .ensures) (c .before .before .if3 .left) (sym (c .before .before .before .before .before .lower2 .ensures) ∙ c .before .before .before .before .if2 .taken)) .1
+    omega (arith, y-place k m w v (c .before .before .before .before .before .before .before .before .passed .ensures) (c .before .before .before .before .before .before .passed2 .ensures) (y-first k m w v (c .before .before .before .before .before .before .before .before .passed .ensures) (c .before .before .before .before .before .before .passed2 .ensures) (c .before .before .if3 .left) (sym (c .before .before .before .before .before .lower2 .ensures) ∙ c .before .before .before .before .if2 .taken)))
 
 refilled-requires-2 : tie.Need-refilled-requires-2 Inv-loop μ-loop
 refilled-requires-2 c κs =

@@ -2,7 +2,6 @@
 use mathlib.Core.Logic.{inl, inr}
 use mathlib.Core.Bool.{true≢false}
 use native.Mathlib.Omega.{arith}
-use borrow.Author.Needs.{needs}
 use borrow.Author.Tests.{eqb-true, eqb-false}
 use Rattle.visit.proofs.goes_on.Statement.{statement}
 use Rattle.visit.proofs.goes_on.Tie as tie
