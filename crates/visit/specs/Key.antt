@@ -16,12 +16,9 @@ use Rattle.cursor.specs.StepLaws.{taking}
 abbrev pub keyOf : Cursor → ℕ → ℕ
 keyOf c p = c .past * 4096 + p * 256 + c .impact % 256
 
--- the parts of a key
+-- a key's document
 pub key-past : (c : Cursor) (p : ℕ) → p < 16 → keyOf c p / 4096 ≡ c .past
 key-past c p h = omega arith
-
-pub key-impact : (c : Cursor) (p : ℕ) → keyOf c p % 256 ≡ c .impact % 256
-key-impact c p = omega arith
 
 -- the next posting of a block, as judging lets it through
 pub taken-current : {s : List ℕ} {N : ℕ} {c : Cursor} → Sound s N c → 0 < c .rest → (takenAt s c .past < 16777216) × (takenAt s c .impact ≤ 255)

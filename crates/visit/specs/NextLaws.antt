@@ -143,8 +143,3 @@ pub next-over : (os : List Mention) (d h : ℕ) → h ≤ 4294967295 → ((x : �
 unfolding nextAt
 next-over [] d h le f = le
 next-over (m ∷ os) d h le f = omega (arith, f 0 (omega arith), next-over os d h le (λ x l. f (suc x) (omega arith)))
-
-pub next-fits : (os : List Mention) (d : ℕ) → nextAt os d ≤ 4294967295
-unfolding nextAt
-next-fits [] d = omega arith
-next-fits (m ∷ os) d = omega (arith, next-fits os d)

@@ -15,7 +15,7 @@ use Rattle.runs.specs.Run.{Run, runFrom}
 use Rattle.runs.specs.RunLaws.{run-stop, run-enter, run-on, run-skips, run-end}
 use Rattle.mentions.specs.declared.Mention.{Mention}
 use Rattle.mentions.specs.declared.Tally.{Tally}
-use Rattle.visit.specs.Stand.{nextAt, docOf, Placed, SoundFrom}
+use Rattle.visit.specs.Stand.{nextAt, docOf, Placed}
 use Rattle.visit.specs.Walk.{meantOf, runOf, runBy, Leaves}
 use Rattle.visit.specs.declared.Visit.{Visit}
 use Rattle.visit.specs.NextLaws.{Rises, doc-none, doc-some, next-none, next-some, next-least, next-most, NextDoc, next-doc}
@@ -50,9 +50,6 @@ module _ {s : List ℕ} {os : List sc.Mention} {pre : List ℕ} {bar j q budget 
 
   pub as-asked : (C : List sc.Mention → Run → Type 0) → C (meantOf s q ms) (runBy s (meantOf s q ms) bar j q budget past count) → C os run
   as-asked C x = subst (C os) (w .same) (subst (λ (l : List sc.Mention). C l (runBy s l bar j q budget past count)) walking-meant x)
-
-  pub walking-sound : SoundFrom s ms j (q - j)
-  walking-sound x h = w .placed .here (j + x) (omega arith) (omega (arith, w .whole)) .sound
 
 -- with no document left the run is finished
 pub finished : {s : List ℕ} {os : List sc.Mention} {pre : List ℕ} {bar j q budget : ℕ} {run : Run} {ms : List Mention} {past count : ℕ} →

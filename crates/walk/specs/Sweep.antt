@@ -23,7 +23,8 @@ use Rattle.walk.specs.KeyLaws.{top-next, top-place, top-rises, keyed-asi
 use Rattle.visit.specs.Walking.{Walking}
 use Rattle.visit.specs.Postings.{Midway, midway-first, midway-sound, some-mention, posting-rises}
 use Rattle.pair.specs.Alone.{Frame, AloneAt, AloneTo, alone-next}
-use Rattle.pair.specs.Pair.{seated, Seats, PairAt, PairIn, pair-next}
+use Rattle.pair.specs.Pair.{seated, Seats, PairAt, PairIn}
+use Rattle.pair.specs.PairLaws.{pair-next}
 
 -- where a way ends: the document is visited, and the next posting is of a later one
 pub record Come (s : List ℕ) (os : List sc.Mention) (pre : List ℕ) (bar j q budget : ℕ) (run : Run) (from : ℕ) (ms : List Mention) (past : ℕ) (t : Tally) (top : ℕ) : Type 0 where

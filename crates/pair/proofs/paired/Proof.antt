@@ -1,6 +1,6 @@
 -- `paired`: one part of the room is filled and then the other, which leaves the first as it is.
 use borrow.Author.Needs.{needs}
-use Rattle.pair.specs.Pair.{seats-first}
+use Rattle.pair.specs.SideLaws.{seats-first}
 use Rattle.pair.proofs.paired.Statement.{statement}
 use Rattle.pair.proofs.paired.Tie as tie
 

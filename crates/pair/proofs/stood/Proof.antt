@@ -5,7 +5,7 @@ use native.Mathlib.Omega.{arith}
 use native.Mathlib.Nat.{mul-le-mul}
 use Rattle.visit.specs.Key.{sound-most}
 use Rattle.pair.specs.RoomLaws.{further-sound}
-use Rattle.pair.specs.Pair.{seated-is}
+use Rattle.pair.specs.SideLaws.{seated-is}
 use Rattle.pair.proofs.stood.Statement.{statement}
 use Rattle.pair.proofs.stood.Tie as tie
 

@@ -9,7 +9,9 @@ use Rattle.lists.specs.Tests.{by-test}
 use Rattle.pair.specs.declared.Spot.{Spot}
 use Rattle.pair.specs.Room.{Passed}
 use Rattle.pair.specs.Alone.{Frame}
-use Rattle.pair.specs.Pair.{PairAt, withMs, PairIn, Changed, pair-first, pair-visit, pair-cast, x-room, y-room, pair-scores, changed-in, changed-on, x-first, x-place, x-stood, x-stands, changed-first, y-first, y-place, y-stood, y-stands, changed-second}
+use Rattle.pair.specs.Pair.{PairAt, withMs, PairIn, Changed}
+use Rattle.pair.specs.PairLaws.{pair-first, pair-visit, pair-cast, x-room, y-room}
+use Rattle.pair.specs.TurnLaws.{pair-scores, changed-in, changed-on, x-first, x-place, x-stood, x-stands, changed-first, y-first, y-place, y-stood, y-stands, changed-second}
 use Rattle.pair.proofs.together.Statement.{statement}
 use Rattle.pair.proofs.together.Tie as tie
 

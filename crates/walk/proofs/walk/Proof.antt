@@ -20,7 +20,7 @@ use Rattle.visit.specs.Looking.{Looking, Found, Visited, in-seventeen, in-sixte
 use Rattle.visit.specs.Walking.{Walking, Ends, walking-own, as-asked, visiting, finished, stopped, entered, going-falls, going-on}
 use Rattle.visit.specs.Postings.{Midway, goes-by, midway-first, in-mentions, next-is, looking-starts, visited-there, midway-here, posting-scores, posting-goes, midway-on}
 use Rattle.visit.specs.declared.Visit.{Visit}
-use Rattle.pair.specs.Pair.{side-stood}
+use Rattle.pair.specs.SideLaws.{side-stood}
 use Rattle.walk.specs.Keys.{Keyed}
 use Rattle.walk.specs.KeyLaws.{blank-rows, keyed-on}
 use Rattle.walk.specs.Sweep.{Come, Kept, kept-aside, alone-starts, pair-starts, come-alone, come-pair, seats-again, any-next, any-place, any-rises, come-any}
