@@ -54,59 +54,47 @@ starts c =
     let few : a .q ≤ length (a .ms) = omega (arith, long c, v .few) in
     meets-first (v .some) (v .few) (rw (c .lead .ensures) (lead-each (a .q) (a .ms) few (Stands (a .image .now) 0) (v .stands)))
 
--- src/all.rt:16:9
 lead-requires : tie.Need-lead-requires Inv-loop μ-loop
 lead-requires c κs = search needs
 
--- src/all.rt:17:9
 empty-requires : tie.Need-empty-requires Inv-loop μ-loop
 empty-requires c κs = search needs
 
--- src/all.rt:21:5
 loop-holds : tie.Need-loop-holds Inv-loop μ-loop
 loop-holds c =
     λ μs g. going-first g (starts (c .before)) (c .empty .ensures .0) (c .empty .ensures .1)
 
--- src/all.rt:22:13
 meet-requires : tie.Need-meet-requires Inv-loop μ-loop
 meet-requires c κs =
     c .loop .inv _ (ground (c .before .before)) .meets
 
--- src/all.rt:27:17
 enum-told : tie.Need-enum-told Inv-loop μ-loop
 enum-told c = search needs
 
--- src/all.rt:27:17
 returns : tie.Need-returns Inv-loop μ-loop
 returns c =
     let g = ground (c .before .before .before .before .before) in
     going-finished g (c .before .before .before .loop .inv _ g) (c .before .before .meet .result) (c .before .before .meet .ensures .0) (c .enum-told .given .1)
 
--- src/all.rt:36:28
 enum-told-2 : tie.Need-enum-told-2 Inv-loop μ-loop
 enum-told-2 c = search needs
 
--- src/all.rt:36:28
 sub-t16 : tie.Need-sub-t16 Inv-loop μ-loop
 sub-t16 c =
     omega (arith, c .before .before .before .meet .ensures .1 .0)
 
--- src/all.rt:34:17
 returns-2 : tie.Need-returns-2 Inv-loop μ-loop
 returns-2 c =
     let g = ground (c .before .before .before .before .before .before) in
     going-stopped g (c .before .before .before .before .loop .inv _ g) (c .before .before .before .meet .result) (c .before .before .before .meet .ensures .0) (c .before .enum-told2 .given .1)
 
--- src/all.rt:41:44
 enum-told-3 : tie.Need-enum-told-3 Inv-loop μ-loop
 enum-told-3 c = search needs
 
--- src/all.rt:41:44
 sub-insert : tie.Need-sub-insert Inv-loop μ-loop
 sub-insert c =
     omega (arith, c .before .before .before .meet .ensures .1 .0)
 
--- src/all.rt:41:21
 insert-requires : tie.Need-insert-requires Inv-loop μ-loop
 insert-requires c κs =
     let g = ground (c .before .before .before .before .before .before) in
@@ -118,7 +106,6 @@ insert-requires c κs =
     let l = c .before .before .before .meet .ensures .1 .1 is in
     (w .within, g .least, g .most, entered-under g w r e is some l)
 
--- src/all.rt:43:17
 bar-requires : tie.Need-bar-requires Inv-loop μ-loop
 bar-requires c κs =
     let g = ground (c .before .before .before .before .before .before .before) in
@@ -130,7 +117,6 @@ bar-requires c κs =
     let l = c .before .before .before .before .meet .ensures .1 .1 is in
     (c .insert .ensures .1, g .least, g .most)
 
--- src/all.rt:21:5
 loop-less : tie.Need-loop-less Inv-loop μ-loop
 loop-less c =
     let g = ground (c .before .before .before .before .before .before .before .before .before) in
@@ -142,7 +128,6 @@ loop-less c =
     let l = c .before .before .before .before .before .before .meet .ensures .1 .1 is in
     going-falls g w r e is some l
 
--- src/all.rt:21:5
 loop-again : tie.Need-loop-again Inv-loop μ-loop
 loop-again c =
     λ μs g.

@@ -1,3 +1,4 @@
+-- `any_term`: each walk starts where the one before it left the mentions, under the bar that the table then has.
 use mathlib.Core.Path.{_≡_, refl, sym, ap, _∙_}
 use Prim.Native.Nat.{ℕ, _-_, _≤_}
 use native.Mathlib.Omega.{arith}
@@ -62,30 +63,24 @@ first-sum : (c : tie.Joined1 Inv-loop μ-loop) → getD (c .before .prefix .resu
 unfolding P
 first-sum c = omega (arith, ground c .sums 0 (omega arith))
 
--- src/any.rt:22:9
 order-requires : tie.Need-order-requires Inv-loop μ-loop
 order-requires c κs = c .before .pre .few
 
--- src/any.rt:23:15
 prefix-requires : tie.Need-prefix-requires Inv-loop μ-loop
 prefix-requires c κs = (c .before .before .pre .few, ordered-small (c .before .before .pre) (long c) (c .order .ensures))
 
--- src/any.rt:25:9
 empty-requires : tie.Need-empty-requires Inv-loop μ-loop
 empty-requires c κs = search needs
 
--- src/any.rt:28:9
 aside-requires : tie.Need-aside-requires Inv-loop μ-loop
 aside-requires c κs =
     let g = ground (c .before .before) in
     (omega arith, omega (arith, g .limited, g .few), first-sum (c .before .before), g .rises)
 
--- src/any.rt:29:9
 least-requires : tie.Need-least-requires Inv-loop μ-loop
 least-requires c κs =
     search needs
 
--- src/any.rt:30:5
 loop-holds : tie.Need-loop-holds Inv-loop μ-loop
 loop-holds c =
     let o = c .before .before .before .before .before .before in
@@ -95,55 +90,45 @@ loop-holds c =
       refl,
     )
 
--- src/any.rt:31:13
 slice-aggregate-walk : tie.Need-slice-aggregate-walk Inv-loop μ-loop
 slice-aggregate-walk c = search needs
 
--- src/any.rt:32:21
 walk-requires : tie.Need-walk-requires Inv-loop μ-loop
 walk-requires c κs =
     let g = ground (c .before .before .before .before .before .before .before) in
     let w = c .before .before .loop .inv .0 _ g in
     (going-starts g w, c .before .before .loop .inv .1, rank-low g w .1)
 
--- src/any.rt:36:17
 enum-told : tie.Need-enum-told Inv-loop μ-loop
 enum-told c =
     search needs
 
--- src/any.rt:36:17
 returns : tie.Need-returns Inv-loop μ-loop
 returns c =
     let g = ground (c .before .before .before .before .before .before .before .before .before .before .before) in
     going-finished g (c .before .before .before .before .before .before .loop .inv .0 _ g) (c .before .before .before .walk .result) (c .before .before .before .walk .ensures .0) (c .enum-told .given .1)
 
--- src/any.rt:45:28
 enum-told-2 : tie.Need-enum-told-2 Inv-loop μ-loop
 enum-told-2 c =
     search needs
 
--- src/any.rt:45:28
 sub-t29 : tie.Need-sub-t29 Inv-loop μ-loop
 sub-t29 c =
     omega (arith, c .before .before .before .before .walk .ensures .1 .0)
 
--- src/any.rt:43:17
 returns-2 : tie.Need-returns-2 Inv-loop μ-loop
 returns-2 c =
     let g = ground (c .before .before .before .before .before .before .before .before .before .before .before .before) in
     going-stopped g (c .before .before .before .before .before .before .before .loop .inv .0 _ g) (c .before .before .before .before .walk .result) (c .before .before .before .before .walk .ensures .0) (c .before .enum-told2 .given .1)
 
--- src/any.rt:50:44
 enum-told-3 : tie.Need-enum-told-3 Inv-loop μ-loop
 enum-told-3 c =
     search needs
 
--- src/any.rt:50:44
 sub-insert : tie.Need-sub-insert Inv-loop μ-loop
 sub-insert c =
     omega (arith, c .before .before .before .before .walk .ensures .1 .0)
 
--- src/any.rt:50:21
 insert-requires : tie.Need-insert-requires Inv-loop μ-loop
 insert-requires c κs =
     let g = ground (c .before .before .before .before .before .before .before .before .before .before .before .before) in
@@ -154,7 +139,6 @@ insert-requires c κs =
     let l = c .before .before .before .before .walk .ensures .1 .1 is in
     (w .within, g .least, g .most, entered-under g w r e is l)
 
--- src/any.rt:52:17
 bar-requires : tie.Need-bar-requires Inv-loop μ-loop
 bar-requires c κs =
     let g = ground (c .before .before .before .before .before .before .before .before .before .before .before .before .before) in
@@ -165,7 +149,6 @@ bar-requires c κs =
     let l = c .before .before .before .before .before .walk .ensures .1 .1 is in
     (c .insert .ensures .1, g .least, g .most)
 
--- src/any.rt:56:21
 aside-requires-2 : tie.Need-aside-requires-2 Inv-loop μ-loop
 aside-requires-2 c κs =
     let g = ground (c .before .before .before .before .before .before .before .before .before .before .before .before .before .before .before .before) in
@@ -178,12 +161,10 @@ aside-requires-2 c κs =
     let x = rank-below g w r e is l (i .result) (i .ensures .0) in
     (x .0, omega (arith, g .limited, g .few), rw (c .before .before .bar .ensures) (x .1), g .rises)
 
--- src/any.rt:59:21
 least-requires-2 : tie.Need-least-requires-2 Inv-loop μ-loop
 least-requires-2 c κs =
     ground (c .before .before .before .before .before .before .before .before .before .before .before .before .before .before .before .before .before .before) .few
 
--- src/any.rt:30:5
 loop-less : tie.Need-loop-less Inv-loop μ-loop
 loop-less c =
     let g = ground (c .before .before .before .before .before .before .before .before .before .before .before .before .before .before .before .before .before .before .before) in
@@ -196,7 +177,6 @@ loop-less c =
     let coming = c .least2 .ensures ∙ coming-least g w r e is l (rank-up g w r e is l (c .before .before .before .before .before .before .insert .result) (c .before .before .before .before .before .before .insert .ensures .0) ranked) in
     going-falls g w r e is l (c .before .before .aside2 .result) coming
 
--- src/any.rt:30:5
 loop-again : tie.Need-loop-again Inv-loop μ-loop
 loop-again c = (
   λ μs g.
@@ -211,7 +191,6 @@ loop-again c = (
   search needs,
 )
 
--- src/any.rt:30:5
 loop-less-2 : tie.Need-loop-less-2 Inv-loop μ-loop
 loop-less-2 c =
     let g = ground (c .before .before .before .before .before .before .before .before .before .before .before .before .before .before .before .before .before .before) in
@@ -223,7 +202,6 @@ loop-less-2 c =
     let coming = coming-same g w r e is l (c .if2 .left) in
     going-falls g w r e is l (c .before .aside2 .result) coming
 
--- src/any.rt:30:5
 loop-again-2 : tie.Need-loop-again-2 Inv-loop μ-loop
 loop-again-2 c = (
   λ μs g.
