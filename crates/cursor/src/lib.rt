@@ -155,34 +155,6 @@ pub fn take_next(image: &[u8], c: Cursor) -> Cursor
     take_posting(image, c)
 }
 
-// The next posting of a block that has one, before it is taken: its document plus one, times 4096, plus its impact.
-pub fn peek(image: &[u8], c: Cursor) -> u64
-    requires { ⌜ Sound (now image) (indexOf (now image) .docs) c × (0 < c .rest) ⌝ }
-    ensures { λ r. ⌜ r ≡ takenAt (now (image .entry)) c .past * 4096 + takenAt (now (image .entry)) c .impact ⌝ }
-{
-    let x = bits_at(image, c.at, c.step);
-    ((c.past as u64) + (x >> 8) + 1) * 4096 + x % 256
-}
-
-// The next posting, in a block that has one, where its document plus one and its impact are known: the image is not read again.
-pub fn take_known(image: &[u8], c: Cursor, past: u32, impact: u32) -> Cursor
-    requires { ⌜ Sound (now image) (indexOf (now image) .docs) c
-        × (0 < c .rest)
-        × (past ≡ takenAt (now image) c .past)
-        × (impact ≡ takenAt (now image) c .impact) ⌝ }
-    ensures { λ r. ⌜ r ≡ takenAt (now (image .entry)) c ⌝ }
-{
-    Cursor {
-        past,
-        impact,
-        at: c.at + c.step,
-        rest: c.rest - 1,
-        left: c.left,
-        step: c.step,
-        last: c.last,
-    }
-}
-
 // The next posting, in a block that has none: the next block's first, or the end.
 pub fn turn_block(image: &[u8], c: Cursor) -> Cursor
     requires { ⌜ Sound (now image) (indexOf (now image) .docs) c × (c .rest ≡ 0) × (c .past ≡ 4294967295 → ⊥) ⌝ }

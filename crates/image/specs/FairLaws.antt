@@ -11,9 +11,9 @@ use Rattle.meaning.specs.Judged.{Judged, good}
 use Rattle.meaning.specs.Image.{Posting, nextOf, largestOf, postingsAt}
 use Rattle.bits.specs.BitsSplit.{bits-first, bits-second}
 use Rattle.image.specs.Answers.{keep, keptOf}
-use Rattle.image.specs.Lanes.{sumAt}
-use Rattle.image.specs.Gathering.{Filled, Weighs}
-use Rattle.image.specs.Weighing.{gapOf, faultOf, reachOf}
+use Rattle.words.specs.Lanes.{sumAt}
+use Rattle.words.specs.Gathering.{Filled, Weighs}
+use Rattle.words.specs.Weighing.{gapOf, faultOf, reachOf}
 
 -- a reading of postings up to `after`, none of an impact above L, and one of L where `reach` is above 0
 record Fair (m : Judged (List Posting)) (next after L reach : ℕ) : Type 0 where

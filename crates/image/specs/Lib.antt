@@ -8,8 +8,4 @@ pub mod PartLaws
 pub mod ListLaws
 pub mod DirectoryLaws
 pub mod VerdictLaws
-pub mod Lanes
-pub mod Masks
-pub mod Weighing
-pub mod Gathering
 pub mod FairLaws

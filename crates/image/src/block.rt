@@ -1,10 +1,10 @@
 // "Each block is judged on its own part of the image, cut from the byte that holds its first bit": refusals 5, 6 and 7 of a block.
 use super::fields::Head;
 use super::fields::read_head;
-use super::words::ones_of;
-use super::words::per_word;
-use super::words::read_words;
-use super::words::weigh;
+use words::ones_of;
+use words::per_word;
+use words::read_words;
+use words::weigh;
 ghost use mathlib.Core.Path.{_≡_};
 ghost use Prim.Native.Nat.{ℕ, _+_, _*_, _≤_, _<_, max};
 ghost use mathlib.Core.Bool.{_&&_};

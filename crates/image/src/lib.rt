@@ -3,7 +3,6 @@ mod block;
 mod directory;
 mod fields;
 mod list;
-mod words;
 
 ghost use mathlib.Core.Path.{_≡_};
 ghost use Prim.Native.Nat.{_-_, _*_, _≤_, _<_};

@@ -1,70 +1,27 @@
--- The lower of two keys is the next posting's: it can be scored, and its mention goes on to the next place, or its part of the room is filled anew.
-use mathlib.Core.Path.{_≡_, refl, sym, ap, _∙_}
+-- The lower of two keys is the next posting's: it can be scored, and its mention goes on to the next place.
+use mathlib.Core.Path.{_≡_, refl, _∙_}
 use mathlib.Core.Bool.{true, false}
-use mathlib.Core.Logic.{_⊎_, inl, inr}
+use mathlib.Core.Logic.{_⊎_}
 use mathlib.Core.List.{List}
-use Prim.Native.Nat.{ℕ, suc, _+_, _*_, _-_, _/_, _%_, _≤_, _<_, min}
+use Prim.Native.Nat.{ℕ, _+_, _*_, _-_, _/_, _%_, _≤_, _<_, min}
 use native.Mathlib.Omega.{arith}
 use lib.Dec.{eqb, ltb}
 use lib.ListN.{length, getD, set}
 use lib.Seq.{getD-set-same, getD-set-other}
 use borrow.Author.Tests.{eqb-true, eqb-false, ltb-true, ltb-false}
 use Rattle.lists.specs.Tests.{by-test, by-order}
-use Rattle.meaning.specs.Score as sc
-use Rattle.runs.specs.Run.{Run}
 use Rattle.mentions.specs.declared.Mention.{Mention}
 use Rattle.mentions.specs.declared.Tally.{Tally}
 use Rattle.mentions.specs.Mentions.{none}
-use Rattle.visit.specs.Stand.{Stands, Goes, Next}
+use Rattle.visit.specs.Stand.{Next}
 use Rattle.visit.specs.Key.{keyOf, sound-most}
-use Rattle.visit.specs.StandLaws.{goes-taken}
-use Rattle.visit.specs.Postings.{goes-by, Midway, midway-least, midway-sound, in-mentions, midway-here, posting-scores, posting-goes, midway-on}
+use Rattle.visit.specs.Postings.{goes-by, Midway, midway-least, midway-sound, in-mentions, midway-here}
 use Rattle.pair.specs.Alone.{Frame}
-use Rattle.pair.specs.Room.{Unpacked, spotAt, Passed}
-use Rattle.pair.specs.declared.Spot.{Spot}
-use Rattle.pair.specs.Pair.{seated, Side, PairAt, withMs, PairIn}
-use Rattle.pair.specs.SideLaws.{side-few, side-rest, side-on, side-stays, side-room, side-first}
-
--- mention i of the array, at its place, whose posting is the next
-module _ {s : List ℕ} {os : List sc.Mention} {pre : List ℕ} {bar j q budget : ℕ} {run : Run} {from : ℕ} {ms : List Mention} {m : Mention} {p base : ℕ} {room : List ℕ} {z : Spot} {i : ℕ}
-    (d : Side s (m .cursor) p base room z) (seat : getD ms i none ≡ seated s m (z .place - (base + 1))) (n : Next ms j q (z .key / 4096) i) {t : Tally}
-    (x : Midway s os pre bar j q budget run from ms (z .key / 4096) t) where
-  -- its key tells its impact
-  win-impact : z .key % 256 ≡ getD ms i none .cursor .impact
-  win-impact =
-      let g = posting-goes x n refl in
-      let byte = g .0 .sound .current (g .1) .byte in
-      let key = d .key in
-      let c = ap (λ (y : Mention). y .cursor .impact) seat in
-      omega arith
-
-  win-weight : m .weight ≡ getD ms i none .weight
-  win-weight = sym (ap (λ (y : Mention). y .weight) seat)
-
-  pub win-scores : (t .sum + m .weight * (z .key % 256) < 4294967296) × (t .count + 1 < 4294967296)
-  win-scores = rw (win-weight, win-impact) (posting-scores x n refl)
-
-  -- it is scored, and goes on to the next place
-  win-scored : {u : Tally} → u ≡ record { sum = t .sum + m .weight * (z .key % 256); count = t .count + 1 } →
-      u ≡ record { sum = t .sum + getD ms i none .weight * getD ms i none .cursor .impact; count = t .count + 1 }
-  win-scored e = e ∙ rw (win-weight, win-impact) refl
-
-  pub win-on : (r : Spot) {u : Tally} → (r .place ≡ z .place + 1) × (r .key ≡ z .next) → 0 < r .key → u ≡ record { sum = t .sum + m .weight * (z .key % 256); count = t .count + 1 } →
-      Midway s os pre bar j q budget run from (set ms i (seated s m (r .place - (base + 1)))) (z .key / 4096) u
-  win-on r is some scored =
-      let g = rw seat at (posting-goes x n refl) in
-      let at : r .place - (base + 1) ≡ suc (z .place - (base + 1)) = omega (arith, is .0, d .low) in
-      let goes : Goes s (getD ms i none .cursor .past) (getD ms i none) (seated s m (r .place - (base + 1))) =
-      rw (seat, at) (goes-taken (seated s m (z .place - (base + 1))) (g .0) (g .1) (side-rest d r is some)) in
-      midway-on x n refl goes refl (win-scored scored)
-
-  -- or to the next block
-  pub win-stands : Stands s (seated s m (z .place - (base + 1)) .cursor .past - 1) (seated s m (z .place - (base + 1))) × (seated s m (z .place - (base + 1)) .cursor .past ≡ 4294967295 → ⊥)
-  win-stands = rw seat at (posting-goes x n refl)
-
-  pub win-turned : {r : Mention} {u : Tally} → Goes s (seated s m (z .place - (base + 1)) .cursor .past) (seated s m (z .place - (base + 1))) r →
-      u ≡ record { sum = t .sum + m .weight * (z .key % 256); count = t .count + 1 } → Midway s os pre bar j q budget run from (set ms i r) (z .key / 4096) u
-  win-turned goes scored = midway-on x n refl (rw seat goes) refl (win-scored scored)
+use Rattle.ahead.specs.declared.Spot.{Spot}
+use Rattle.ahead.specs.Side.{seated}
+use Rattle.pair.specs.Pair.{Passed, PairAt, withMs, PairIn}
+use Rattle.ahead.specs.SideLaws.{side-few, side-on, side-stays}
+use Rattle.ahead.specs.PostingLaws.{win-scores, win-on}
 
 -- the two sides of a pair
 module _ {s : List ℕ} {f : Frame} {a b : Mention} {x y : Spot} {room : List ℕ} {slack limit past : ℕ} {t : Tally} (k : PairAt s f a b x y room slack limit past t) where
@@ -163,10 +120,10 @@ module _ {s : List ℕ} {f : Frame} {a b : Mention} {x y : Spot} {room : List �
   pair-cast top e = rw e (pair-next .1 .fits)
 
   -- the places are in the room
-  pub x-room : x .place < 131
+  pub x-room : x .place < 1055
   x-room = omega (arith, side-few (k .here))
 
-  pub y-room : y .place < 131
+  pub y-room : y .place < 1055
   y-room = omega (arith, side-few (k .there), k .there .low)
 
 -- the first mention's posting is scored
@@ -177,9 +134,6 @@ module _ {s : List ℕ} {f : Frame} {a b : Mention} {x y : Spot} {room : List �
 
   pub first-scores : (u .sum + a .weight * (x .key % 256) < 4294967296) × (u .count + 1 < 4294967296)
   first-scores = win-scores (k .here) (k .one) (first-next k lt) m
-
-  pub first-stands : Stands s (seated s a (x .place - 1) .cursor .past - 1) (seated s a (x .place - 1)) × (seated s a (x .place - 1) .cursor .past ≡ 4294967295 → ⊥)
-  first-stands = win-stands (k .here) (k .one) (first-next k lt) m
 
   module _ {v : Tally} (scored : v ≡ record { sum = u .sum + a .weight * (x .key % 256); count = u .count + 1 }) {y′ : Spot} (rests : Passed room false y y′) where
     y-stays : (y′ .place ≡ y .place) × (y′ .key ≡ y .key)
@@ -203,22 +157,6 @@ module _ {s : List ℕ} {f : Frame} {a b : Mention} {x y : Spot} {room : List �
           midway = win-on (k .here) (k .one) (first-next k lt) m x′ (goes .goes refl) some scored;
         }
 
-    pub first-turned : {r : Mention} {room′ : List ℕ} {x′ : Spot} → Goes s (seated s a (x .place - 1) .cursor .past) (seated s a (x .place - 1)) r →
-        Unpacked s (r .cursor) 0 0 room room′ → x′ ≡ spotAt room′ 0 →
-        PairAt s (withMs f (set (f .ms) (f .j) r)) r b x′ y′ room′ slack limit (x .key / 4096) v
-    first-turned {r} goes unpacked is =
-        record {
-          two = k .two;
-          spare = k .spare;
-          low = k .low;
-          long = unpacked .long ∙ k .long;
-          one = getD-set-same (f .ms) (f .j) r none first-in ∙ rw is refl;
-          other = y-kept r;
-          here = side-first (goes .stands .sound) unpacked is;
-          there = side-room (side-stays (k .there) y-stays (rests .next)) (λ z g h. unpacked .others z (inr (omega arith)));
-          midway = win-turned (k .here) (k .one) (first-next k lt) m goes scored;
-        }
-
 -- the second's is
 module _ {s : List ℕ} {f : Frame} {a b : Mention} {x y : Spot} {room : List ℕ} {slack limit past : ℕ} {t : Tally} (k : PairAt s f a b x y room slack limit past t) (lt : y .key < x .key)
     {u : Tally} (m : Midway s (f .os) (f .pre) (f .bar) (f .j) (f .q) (f .budget) (f .run) (f .from) (f .ms) (y .key / 4096) u) where
@@ -227,9 +165,6 @@ module _ {s : List ℕ} {f : Frame} {a b : Mention} {x y : Spot} {room : List �
 
   pub second-scores : (u .sum + b .weight * (y .key % 256) < 4294967296) × (u .count + 1 < 4294967296)
   second-scores = win-scores (k .there) (k .other) (second-next k lt) m
-
-  pub second-stands : Stands s (seated s b (y .place - 67) .cursor .past - 1) (seated s b (y .place - 67)) × (seated s b (y .place - 67) .cursor .past ≡ 4294967295 → ⊥)
-  second-stands = win-stands (k .there) (k .other) (second-next k lt) m
 
   module _ {v : Tally} (scored : v ≡ record { sum = u .sum + b .weight * (y .key % 256); count = u .count + 1 }) {x′ : Spot} (rests : Passed room false x x′) where
     x-stays : (x′ .place ≡ x .place) × (x′ .key ≡ x .key)
@@ -251,20 +186,4 @@ module _ {s : List ℕ} {f : Frame} {a b : Mention} {x y : Spot} {room : List �
           here = side-stays (k .here) x-stays (rests .next);
           there = side-on (k .there) y′ (goes .goes refl) some (goes .next);
           midway = win-on (k .there) (k .other) (second-next k lt) m y′ (goes .goes refl) some scored;
-        }
-
-    pub second-turned : {r : Mention} {room′ : List ℕ} {y′ : Spot} → Goes s (seated s b (y .place - 67) .cursor .past) (seated s b (y .place - 67)) r →
-        Unpacked s (r .cursor) 1 66 room room′ → y′ ≡ spotAt room′ 66 →
-        PairAt s (withMs f (set (f .ms) (f .j + 1) r)) a r x′ y′ room′ slack limit (y .key / 4096) v
-    second-turned {r} goes unpacked is =
-        record {
-          two = k .two;
-          spare = k .spare;
-          low = k .low;
-          long = unpacked .long ∙ k .long;
-          one = x-kept r;
-          other = getD-set-same (f .ms) (f .j + 1) r none second-in ∙ rw is refl;
-          here = side-room (side-stays (k .here) x-stays (rests .next)) (λ z g h. unpacked .others z (inl (omega arith)));
-          there = side-first (goes .stands .sound) unpacked is;
-          midway = win-turned (k .there) (k .other) (second-next k lt) m goes scored;
         }

@@ -25,7 +25,7 @@ pub fn any_term(
     let mut count: u32 = 0;
     let mut j = mentions::aside(&pre, 0, limit, bar);
     let mut past = mentions::least(os, j, q);
-    let mut room = [0u64; 132];
+    let mut room = [0u64; 1056];
     loop {
         let visit = walk::walk(image, os, &pre, j, q, past, count, bar, budget, &mut room);
         count = visit.count;

@@ -1,11 +1,11 @@
 -- The loop of the look-ups: "from rank j down to 1: if the sum so far plus P(i) is at most the bar, the document is dropped; else the
 -- mention at rank i is looked up and scored if it holds the document".
-use mathlib.Core.Path.{_≡_, refl, sym, ap, _∙_}
+use mathlib.Core.Path.{_≡_, refl, sym, _∙_}
 use mathlib.Core.List.{List}
 use Prim.Native.Nat.{ℕ, _+_, _*_, _-_, _≤_, _<_}
 use native.Mathlib.Omega.{arith}
 use lib.ListN.{length, getD, set, drop, length-set}
-use lib.Seq.{set-getD, getD-set-other}
+use lib.Seq.{set-getD}
 use mir.Syntax.{w32}
 use mir.Val.{Fits}
 use Rattle.meaning.specs.Score as sc
@@ -93,11 +93,6 @@ module _ {s : List ℕ} {os : List sc.Mention} {pre : List ℕ} {bar j q past co
           same = refl;
           stored = stored ∙ sym (set-getD ms (i - 1) none);
         })
-
-    -- either way the mentions above rank j stay
-    pub found-aside : {m : Mention} {ns : List Mention} → Found s past ms (i - 1) ns m → (y : ℕ) → j ≤ y → getD ns y none ≡ getD ms y none
-    found-aside {m} f y g =
-        ap (λ (l : List Mention). getD l y none) (f .stored) ∙ getD-set-other ms (i - 1) y m none (λ e. omega (arith, x .low))
 
     -- and scored where its posting is the document's
     pub look-scores : {m : Mention} {ns : List Mention} → Found s past ms (i - 1) ns m → m .cursor .past ≡ past →

@@ -27,7 +27,7 @@ at-set Q ms i n x lt f g =
     (λ b. let ne = eqb-false x i b in subst Q (sym (getD-set-other ms i x n none ne)) (g ne))
 
 -- what the first n of an array mean, place by place
-meant-is : (s : List ℕ) (n : ℕ) (ms : List Mention) (os : List sc.Mention) → length os ≡ n → n ≤ length ms →
+pub meant-is : (s : List ℕ) (n : ℕ) (ms : List Mention) (os : List sc.Mention) → length os ≡ n → n ≤ length ms →
     ((x : ℕ) → x < length os → meant s (getD ms x none) ≡ getD os x noMention) → meantOf s n ms ≡ os
 meant-is s zero ms [] e le h = refl
 meant-is s zero ms (o ∷ os) e le h = absurd (omega arith)

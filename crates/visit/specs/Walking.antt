@@ -1,5 +1,5 @@
 -- The loop over documents: the run from the document it is at is the run that was asked for.
-use mathlib.Core.Path.{_≡_, refl, sym, ap, subst, _∙_}
+use mathlib.Core.Path.{_≡_, sym, ap, _∙_}
 use mathlib.Core.List.{List}
 use Prim.Native.Nat.{ℕ, suc, _+_, _*_, _-_, _≤_, _<_}
 use native.Mathlib.Omega.{arith}
@@ -16,10 +16,10 @@ use Rattle.runs.specs.RunLaws.{run-stop, run-enter, run-on, run-skips, run-end}
 use Rattle.mentions.specs.declared.Mention.{Mention}
 use Rattle.mentions.specs.declared.Tally.{Tally}
 use Rattle.visit.specs.Stand.{nextAt, docOf, Placed}
-use Rattle.visit.specs.Walk.{meantOf, runOf, runBy, Leaves}
+use Rattle.visit.specs.Walk.{runOf, runBy, Leaves}
 use Rattle.visit.specs.declared.Visit.{Visit}
 use Rattle.visit.specs.NextLaws.{Rises, doc-none, doc-some, next-none, next-some, next-least, next-most, NextDoc, next-doc}
-use Rattle.visit.specs.PlacedLaws.{placed-meant, placed-rises, placed-next}
+use Rattle.visit.specs.PlacedLaws.{placed-rises, placed-next}
 use Rattle.visit.specs.Scoring.{Site}
 use Rattle.visit.specs.Looking.{Visited}
 
@@ -38,23 +38,10 @@ pub record Walking (s : List ℕ) (os : List sc.Mention) (pre : List ℕ) (bar j
   pub spare : count ≤ 16 * docOf (indexOf s .docs) past
   pub same : runBy s os bar j q budget past count ≡ run
 
--- the mentions are those that the array means, and what holds of these and of the run from here holds of those that were asked for
-module _ {s : List ℕ} {os : List sc.Mention} {pre : List ℕ} {bar j q budget : ℕ} {run : Run} {ms : List Mention} {past count : ℕ} (w : Walking s os pre bar j q budget run ms past count) where
-  walking-meant : meantOf s q ms ≡ os
-  walking-meant = placed-meant (w .placed) (w .whole) (omega (arith, w .long, w .few))
-
-  pub walking-own : Walking s (meantOf s q ms) pre bar j q budget (runBy s (meantOf s q ms) bar j q budget past count) ms past count
-  walking-own =
-      rw walking-meant
-      (record { whole = w .whole; few = w .few; rank = w .rank; sums = w .sums; long = w .long; placed = w .placed; next = w .next; spare = w .spare; same = refl })
-
-  pub as-asked : (C : List sc.Mention → Run → Type 0) → C (meantOf s q ms) (runBy s (meantOf s q ms) bar j q budget past count) → C os run
-  as-asked C x = subst (C os) (w .same) (subst (λ (l : List sc.Mention). C l (runBy s l bar j q budget past count)) walking-meant x)
-
 -- with no document left the run is finished
 pub finished : {s : List ℕ} {os : List sc.Mention} {pre : List ℕ} {bar j q budget : ℕ} {run : Run} {ms : List Mention} {past count : ℕ} →
     Walking s os pre bar j q budget run ms past count → past ≡ 4294967295 →
-    {r : Visit} → r ≡ record { ms = ms; turn = Finished; past = past; sum = 0; count = count; next = past } → Ends s os j run r
+    {ls : List Mention} {r : Visit} → r ≡ record { ms = ls; turn = Finished; past = past; sum = 0; count = count; next = past } → Ends s os j run r
 finished {s} {os} {bar = bar} {j} {q} {budget} {past = past} {count} w e is =
     let N = indexOf s .docs in
     let none : N - N ≡ 0 = omega arith in

@@ -1,3 +1,1 @@
-pub mod Keys
-pub mod KeyLaws
-pub mod Sweep
+pub mod Standing

@@ -19,7 +19,7 @@ use Rattle.search.proofs.AnyLoop.{Ground, Going, served-fit, served-len
 
 abbrev Inv-loop : tie.InvT-loop
 Inv-loop image q k budget docs pruned os₀ pre limit table₀ bar₀ count₀ j₀ past₀ room₀ os table bar count j past room =
-    ((μs : List sc.Mention) (g : Ground image q k budget docs pruned pre limit os₀ μs) → Going g os table bar count j past) × (length room ≡ 132)
+    ((μs : List sc.Mention) (g : Ground image q k budget docs pruned pre limit os₀ μs) → Going g os table bar count j past) × (length room ≡ 1056)
 
 abbrev μ-loop : tie.MeasureT-loop
 μ-loop image q k budget docs pruned os₀ pre limit table₀ bar₀ count₀ j₀ past₀ room₀ os table bar count j past room =

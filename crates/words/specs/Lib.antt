@@ -1,0 +1,4 @@
+pub mod Lanes
+pub mod Masks
+pub mod Weighing
+pub mod Gathering
