@@ -1,1 +1,3 @@
 pub mod Standing
+pub mod StandingLaws
+pub mod SettledLaws

@@ -28,7 +28,9 @@ use Rattle.sweep.specs.KeyLaws.{blank-rows}
 use Rattle.sweep.specs.Parts.{Parts, PartsAt}
 use Rattle.sweep.specs.PartLaws.{parts-place, parts-next, parts-here, parts-scores}
 use Rattle.sweep.specs.FillLaws.{fill-low, fill-stood, fill-stands, fill-parts, fill-rises}
-use Rattle.walk.specs.Standing.{Standing, frameOf, Come, standing-aside, standing-same, standing-own, standing-asked, parts-start, standing-parts, alone-start, standing-looked, come-alone, come-parts, Settled, settled-first, settle-low, settle-stood, settled-on, settled-all}
+use Rattle.walk.specs.Standing.{Standing, frameOf, Come, Settled}
+use Rattle.walk.specs.StandingLaws.{standing-aside, standing-same, standing-own, standing-asked, parts-start, standing-parts, alone-start, standing-looked, come-alone, come-parts}
+use Rattle.walk.specs.SettledLaws.{settled-first, settle-low, settle-stood, settled-on, settled-all}
 use Rattle.walk.proofs.walk.Statement.{statement}
 use Rattle.walk.proofs.walk.Tie as tie
 
