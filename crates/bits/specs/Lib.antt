@@ -1,5 +1,4 @@
 pub mod BitsSplit
 pub mod Windows
-pub mod LayoutLaws
 pub mod Parts
 pub mod Only

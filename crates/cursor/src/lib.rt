@@ -76,18 +76,17 @@ fn open_block(image: &[u8], c: Cursor) -> Cursor
     ensures { λ r. ⌜ r ≡ openedAt (now (image .entry)) c ⌝ }
 {
     let at = c.at + c.rest * c.step;
-    let h = bits_at(image, at, 44);
-    let n = (h >> 37) as u32 + 1;
-    let step = ((h >> 32) % 32) as u32 + 8;
-    let last = (h % 16777216) as u32 + 1;
+    let byte = (at / 8) as usize;
+    let head = layout::read_head(&image[byte..], (at % 8) as usize);
+    let n = head.count as u32;
     Cursor {
         past: c.last,
         impact: c.impact,
         at: at + 44,
         rest: n,
         left: c.left - n,
-        step: step,
-        last: last,
+        step: head.width as u32 + 8,
+        last: head.last as u32 + 1,
     }
 }
 
@@ -125,15 +124,12 @@ pub fn open_list(image: &[u8], term: u32) -> Opened
         × (r .count ≡ length (termOf (now (image .entry)) term .postings))
         × (r .largest ≡ termOf (now (image .entry)) term .largest) ⌝ }
 {
-    let byte = 8 + 8 * (term as usize);
-    let e = bits::word(&image[byte..]);
-    let first = (e >> 32) as u32;
-    let count = ((e >> 8) % 16777216) as u32;
-    let largest = (e % 256) as u32;
+    let entry = layout::read_entry(image, term as usize);
+    let count = entry.count as u32;
     let start = Cursor {
         past: 0,
         impact: 0,
-        at: first,
+        at: entry.first as u32,
         rest: 0,
         left: count,
         step: 8,
@@ -143,7 +139,7 @@ pub fn open_list(image: &[u8], term: u32) -> Opened
     Opened {
         cursor: c,
         count: count,
-        largest: largest,
+        largest: entry.largest as u32,
     }
 }
 

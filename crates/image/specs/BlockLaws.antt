@@ -33,17 +33,6 @@ pub record Words (s : List ℕ) (N w start first n L : ℕ) (row : List ℕ) : T
   pub largest : L ≤ 255
   pub room : length row ≡ 128
 
--- the bounds of a head's fields
-pub record Small (h : Head) : Type 0 where
-  pub some : 0 < h .count
-  pub few : h .count ≤ 128
-  pub last : h .last < 16777216
-  pub largest : h .largest ≤ 255
-
-pub head-small : (s : List ℕ) (i : ℕ) (h : Head) → h ≡ headAt s i → Small h
-head-small s i h e =
-    subst⁻¹ Small e (record { some = omega arith; few = omega (arith, bits-lt s i 7); last = omega (arith, bits-lt s (i + 20) 24); largest = omega (arith, bits-lt s (i + 12) 8) })
-
 -- as many postings are read as were asked for
 pub postings-count : (s : List ℕ) (N t w i next n : ℕ) (ps : List Posting) → postingsAt s N t w i next n ≡ good ps → length ps ≡ n
 unfolding postingsAt

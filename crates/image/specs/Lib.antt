@@ -1,4 +1,3 @@
-pub mod Fields
 pub mod Answers
 pub mod Verdict
 pub mod KeepLaws

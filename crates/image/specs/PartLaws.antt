@@ -14,6 +14,7 @@ use Rattle.meaning.specs.Judged.{Judged, good, bad, _>>=_, need}
 use Rattle.meaning.specs.Layout.{Head, headAt, sizeOf}
 use Rattle.meaning.specs.Image.{Posting, Part, nextOf, largestOf, postingsAt, blockAt}
 use Rattle.bits.specs.Parts.{from, from-is}
+use Rattle.layout.specs.FieldsLaws.{head-drop}
 use Rattle.image.specs.Answers.{keep, takenOf}
 
 same : (p q : Bool) → (p ≡ true → q ≡ true) → (q ≡ true → p ≡ true) → p ≡ q
@@ -39,18 +40,6 @@ postings-drop s k N t w i next (suc n) =
       add-assoc (8 * k) i w,
       add-assoc (8 * k) (i + w) 8,
       postings-drop s k N t w (i + w + 8) (suc (next + bitsAt s (8 * k + i) w)) n,
-    )
-
-head-drop : (s : List ℕ) (k i : ℕ) → headAt (drop k s) i ≡ headAt s (8 * k + i)
-head-drop s k i =
-    rw (
-      bits-drop s k i 7,
-      bits-drop s k (i + 7) 5,
-      bits-drop s k (i + 12) 8,
-      bits-drop s k (i + 20) 24,
-      add-assoc (8 * k) i 7,
-      add-assoc (8 * k) i 12,
-      add-assoc (8 * k) i 20,
     )
 
 -- the bits that a block takes do not depend on where it starts

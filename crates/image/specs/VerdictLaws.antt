@@ -74,17 +74,6 @@ module _ (s : List ℕ) where
       image-is h e p
       ∙ rw (eq-eqb (h .version) 1 v, eq-eqb (h .bytes) (length s) b, le-leb (8 + 8 * h .terms) (length s) t, q)
 
--- the bounds of a header's fields
-pub record Bounded (h : Header) : Type 0 where
-  pub terms : h .terms < 4096
-  pub docs : h .docs < 16777216
-  pub bytes : h .bytes < 16777216
-
-pub header-bounded : (s : List ℕ) (h : Header) → h ≡ headerOf s → Bounded h
-header-bounded s h e =
-    subst⁻¹ Bounded e
-    (record { terms = omega (arith, bits-lt s 4 12); docs = omega (arith, bits-lt s 16 24); bytes = omega (arith, bits-lt s 40 24) })
-
 -- what a refusal, and an acceptance, say of the image
 pub verdict-refused : (s : List ℕ) (number place : ℕ) → verdict (Refused number place) ≡ sizesOf (imageOf s) → imageOf s ≡ bad number place
 verdict-refused s number place e = keep-bad (imageOf s) _ (sym e)

@@ -1,6 +1,6 @@
 // "Each block is judged on its own part of the image, cut from the byte that holds its first bit": refusals 5, 6 and 7 of a block.
-use super::fields::Head;
-use super::fields::read_head;
+use layout::Head;
+use layout::read_head;
 use words::ones_of;
 use words::per_word;
 use words::read_words;

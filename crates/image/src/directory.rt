@@ -1,13 +1,13 @@
 // The directory: each term in order, "first 4, then its blocks in order .., then the list's 7".
-use super::fields::Entry;
-use super::fields::read_entry;
 use super::list::Blocks;
 use super::list::judge_blocks;
+use layout::Entry;
+use layout::read_entry;
 ghost use mathlib.Core.Path.{_≡_};
 ghost use Prim.Native.Nat.{_+_, _*_, _≤_, _<_};
 ghost use lib.ListN.{length};
 ghost use Rattle.meaning.specs.Image.{entryFits, termsAt};
-ghost use Rattle.image.specs.Fields.{entryFields};
+ghost use Rattle.layout.specs.Fields.{entryFields};
 ghost use Rattle.image.specs.Answers.{keep, stopOf, listSays, listsSay};
 
 // What judging one term's list says.

@@ -1,7 +1,6 @@
 // Judging an image: any bytes at all, refusals 1 to 8 of document 01 in its order, or what an accepted image holds.
 mod block;
 mod directory;
-mod fields;
 mod list;
 
 ghost use mathlib.Core.Path.{_≡_};
@@ -36,7 +35,7 @@ pub fn judge(image: &[u8]) -> Verdict
     if image.len() < 8 {
         return Verdict::Refused(1, 0);
     }
-    let header = fields::read_header(image);
+    let header = layout::read_header(image);
     let terms = header.terms;
     let docs = header.docs;
     let version = header.version;

@@ -8,16 +8,17 @@ use borrow.Author.Tests.{lt-leb, eq-eqb, ne-eqb, not-true, not-false}
 use Rattle.meaning.specs.Judged.{_>>=_}
 use Rattle.meaning.specs.Image.{imageOf}
 use Rattle.image.specs.declared.directory.Lists.{Lists}
-use Rattle.image.specs.Fields.{headerFields}
+use Rattle.layout.specs.Fields.{headerFields}
+use Rattle.layout.specs.FieldsLaws.{HeaderBounds, header-bounds}
 use Rattle.image.specs.Answers.{listsSay}
 use Rattle.image.specs.Verdict.{sizesOf}
 use Rattle.image.specs.DirectoryLaws.{stop-inside}
-use Rattle.image.specs.VerdictLaws.{Bounded, header-bounded, ending, image-short, image-version, image-length, image-there}
+use Rattle.image.specs.VerdictLaws.{ending, image-short, image-version, image-length, image-there}
 use Rattle.image.proofs.judge.Statement.{statement}
 use Rattle.image.proofs.judge.Tie as tie
 
-bounded : (c : tie.After-read-header) → Bounded (headerFields (c .read-header .result))
-bounded c = header-bounded (c .before .before .before .args .image .now) (headerFields (c .read-header .result)) (c .read-header .ensures)
+bounded : (c : tie.After-read-header) → HeaderBounds (headerFields (c .read-header .result))
+bounded c = header-bounds (c .before .before .before .args .image .now) (headerFields (c .read-header .result)) (c .read-header .ensures)
 
 -- what the meaning says, by what was found of the lists
 found :

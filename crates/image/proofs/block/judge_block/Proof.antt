@@ -11,16 +11,17 @@ use Rattle.meaning.specs.Judged.{bad, _>>=_}
 use Rattle.meaning.specs.Layout.{sizeOf}
 use Rattle.meaning.specs.Image.{blockAt}
 use Rattle.image.specs.declared.block.Postings.{Postings}
-use Rattle.image.specs.Fields.{headFields}
+use Rattle.layout.specs.Fields.{headFields}
+use Rattle.layout.specs.FieldsLaws.{HeadBounds, head-bounds}
 use Rattle.image.specs.Answers.{keep, postingsSay, takenOf}
-use Rattle.image.specs.BlockLaws.{Small, head-small, size-most, closing, block-cut, block-odd, block-there}
+use Rattle.image.specs.BlockLaws.{size-most, closing, block-cut, block-odd, block-there}
 use Rattle.image.proofs.block.judge_block.Statement.{statement}
 use Rattle.image.proofs.block.judge_block.Tie as tie
 
-small : (c : tie.After-read-head) → Small (headFields (c .read-head .result))
+small : (c : tie.After-read-head) → HeadBounds (headFields (c .read-head .result))
 small c =
     let a = c .before .before .before .before .args in
-    head-small (a .part .now) (a .shift) (headFields (c .read-head .result)) (c .read-head .ensures)
+    head-bounds (a .part .now) (a .shift) (headFields (c .read-head .result)) (c .read-head .ensures)
 
 size : (c : tie.After-read-head) → c .read-head .result .width ≤ 24 → c .read-head .result .count * (c .read-head .result .width + 8) ≤ 4096
 size c w = size-most (c .read-head .result .count) (c .read-head .result .width) (small c .few) w

@@ -5,7 +5,7 @@ use borrow.Author.Tests.{eq-eqb, ne-eqb, not-true, not-false}
 use Rattle.meaning.specs.Judged.{_>>=_}
 use Rattle.meaning.specs.Image.{termsAt}
 use Rattle.image.specs.declared.list.Blocks.{Blocks}
-use Rattle.image.specs.Fields.{entryFields}
+use Rattle.layout.specs.Fields.{entryFields}
 use Rattle.image.specs.Answers.{keep, stopOf, blocksSay}
 use Rattle.image.specs.DirectoryLaws.{finished, list-odd, list-there}
 use Rattle.image.proofs.directory.judge_list.Statement.{statement}

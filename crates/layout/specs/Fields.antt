@@ -1,8 +1,8 @@
 -- What the code's records of fixed fields say: the meaning's records.
 use Rattle.meaning.specs.Layout as layout
-use Rattle.image.specs.declared.fields.Header.{Header}
-use Rattle.image.specs.declared.fields.Entry.{Entry}
-use Rattle.image.specs.declared.fields.Head.{Head}
+use Rattle.layout.specs.declared.Header.{Header}
+use Rattle.layout.specs.declared.Entry.{Entry}
+use Rattle.layout.specs.declared.Head.{Head}
 
 abbrev pub headerFields : Header → layout.Header
 headerFields h = record { version = h .version; terms = h .terms; docs = h .docs; bytes = h .bytes }

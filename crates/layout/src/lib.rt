@@ -1,9 +1,10 @@
-// The fixed fields of an image, as document 01 has them in "The image". Each row of fields is read as one number and taken apart.
+// The fixed fields of an image, as document 01 has them in "The image": its header, a directory entry, a block's head. Each is read as one
+// number and taken apart; judging and reading back share them.
 ghost use mathlib.Core.Path.{_≡_};
 ghost use Prim.Native.Nat.{_+_, _*_, _≤_, _<_};
 ghost use lib.ListN.{length};
 ghost use Rattle.meaning.specs.Layout.{headerOf, entryAt, headAt};
-ghost use Rattle.image.specs.Fields.{headerFields, entryFields, headFields};
+ghost use Rattle.layout.specs.Fields.{headerFields, entryFields, headFields};
 
 // "version (4, value 1), number of terms T (12), number of documents N (24), length of the image in bytes (24)".
 pub struct Header {
@@ -28,6 +29,7 @@ pub struct Head {
     pub last: u64,
 }
 
+// The header, of an image that has one.
 pub fn read_header(image: &[u8]) -> Header
     requires { ⌜ 8 ≤ length (now image) ⌝ }
     ensures { λ r. ⌜ headerFields r ≡ headerOf (now (image .entry)) ⌝ }

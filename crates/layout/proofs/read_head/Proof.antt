@@ -1,9 +1,9 @@
 -- A head, out of its one field.
 use mathlib.Core.Path.{sym}
 use borrow.Author.Needs.{needs}
-use Rattle.bits.specs.LayoutLaws.{head-is}
-use Rattle.image.proofs.fields.read_head.Statement.{statement}
-use Rattle.image.proofs.fields.read_head.Tie as tie
+use Rattle.layout.specs.FieldsLaws.{head-is}
+use Rattle.layout.proofs.read_head.Statement.{statement}
+use Rattle.layout.proofs.read_head.Tie as tie
 
 field-requires : tie.Need-field-requires
 field-requires c κs = search needs

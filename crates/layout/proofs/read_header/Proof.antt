@@ -1,9 +1,9 @@
 -- The header, out of its one word.
 use mathlib.Core.Path.{sym}
 use borrow.Author.Needs.{needs}
-use Rattle.bits.specs.LayoutLaws.{header-is}
-use Rattle.image.proofs.fields.read_header.Statement.{statement}
-use Rattle.image.proofs.fields.read_header.Tie as tie
+use Rattle.layout.specs.FieldsLaws.{header-is}
+use Rattle.layout.proofs.read_header.Statement.{statement}
+use Rattle.layout.proofs.read_header.Tie as tie
 
 word-requires : tie.Need-word-requires
 word-requires c κs = search needs

@@ -3,10 +3,10 @@ use Prim.Native.Nat.{_+_, _*_}
 use mathlib.Core.Path.{_≡_, sym, _∙_}
 use native.Mathlib.Omega.{arith}
 use borrow.Author.Needs.{needs}
-use Rattle.bits.specs.LayoutLaws.{entry-is}
+use Rattle.layout.specs.FieldsLaws.{entry-is}
 use Rattle.bits.specs.Parts.{from-bits}
-use Rattle.image.proofs.fields.read_entry.Statement.{statement}
-use Rattle.image.proofs.fields.read_entry.Tie as tie
+use Rattle.layout.proofs.read_entry.Statement.{statement}
+use Rattle.layout.proofs.read_entry.Tie as tie
 
 mul-at : tie.Need-mul-at
 mul-at c = search needs
