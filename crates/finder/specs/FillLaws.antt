@@ -16,7 +16,7 @@ use Rattle.sheet.specs.declared.Record.{Record}
 use Rattle.sheet.specs.Record.{Readable, IsRecord, recordOf, queryFrom}
 use Rattle.sheet.specs.QueryLaws.{needed-next, needed-most}
 use Rattle.sheet.specs.Standing.{Standing, standing-first, standing-query, standing-readable, standing-fits, standing-next, standing-more, standing-over}
-use Rattle.search.specs.Asked.{Asked}
+use Rattle.search.specs.Posed.{Posed}
 use Rattle.finder.specs.Fill.{Fills, Filled}
 
 -- one query more
@@ -91,9 +91,9 @@ module _ {s sheet : List ℕ} {docs : ℕ} {before : List ℕ} (f : Fills s shee
             let k : r .k ≡ getD (f .queries) (g .i) (queryFrom sheet 0) .k = ap (λ (q : Query). q .k) here in
             omega (arith, needed-next (f .queries) (g .i) more (queryFrom sheet 0), g .begins)
 
-        pub going-asked : Asked s sheet r docs
+        pub going-posed : Posed s sheet r docs
         unfolding T
-        going-asked = record { image = f .image; all = f .all; fits = standing-fits sheet T (f .queries) (g .i) at (g .standing) more r is }
+        going-posed = record { image = f .image; all = f .all; fits = standing-fits sheet T (f .queries) (g .i) at (g .standing) more r is }
 
         -- its stretch is within the row
         pub going-room : start + (3 + 2 * r .k) ≤ length before

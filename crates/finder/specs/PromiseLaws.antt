@@ -16,9 +16,10 @@ use Rattle.meaning.specs.Call.{answers, needed, judged, says, Called}
 use Rattle.meaning.specs.IndexLaws.{index-is}
 use Rattle.meaning.specs.AcceptLaws.{image-good}
 use Rattle.meaning.specs.SheetLaws.{sheet-good}
-use Rattle.meaning.specs.CallLaws.{CallFits, refused-same, refused-stays, done-is}
+use Rattle.meaning.specs.CallLaws.{refused-same, refused-stays, done-is}
+use Rattle.meaning.specs.CallFits.{CallFits}
 use Rattle.meaning.specs.FaultLaws.{image-first}
-use Rattle.meaning.specs.OnlyLaws.{Promise}
+use Rattle.meaning.specs.Promise.{Promise}
 use Rattle.sheet.specs.Verdict.{neededOf, roomed}
 use Rattle.sheet.specs.QueryLaws.{needed-good}
 use Rattle.finder.specs.Fill.{Fills, Filled}

@@ -5,7 +5,7 @@ use Prim.Native.Nat.{ℕ}
 use Rattle.lists.specs.Each.{Each}
 use Rattle.meaning.specs.declared.Outcome.{Outcome}
 use Rattle.meaning.specs.Call.{says, Called}
-use Rattle.meaning.specs.OnlyLaws.{Promise}
+use Rattle.meaning.specs.Promise.{Promise}
 use Rattle.meaning.specs.Examples.{Case, lent, cases, called, promised, examples}
 
 -- whatever meets the promise on a row of the table is that row's outcome and numbers

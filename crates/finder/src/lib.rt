@@ -3,7 +3,7 @@
 use meaning::Outcome;
 ghost use mathlib.Core.Path.{_≡_};
 ghost use Rattle.meaning.specs.Call.{says};
-ghost use Rattle.meaning.specs.OnlyLaws.{Promise};
+ghost use Rattle.meaning.specs.Promise.{Promise};
 ghost use Rattle.finder.specs.Code.{codeOf, Exported};
 ghost use Rattle.finder.specs.CodeLaws.{Small};
 ghost use Rattle.finder.specs.Fill.{Fills, Filled};

@@ -5,29 +5,11 @@ use Prim.Native.Nat.{ℕ, zero, suc, _+_, _*_, _≤_, _<_}
 use native.Mathlib.Omega.{arith}
 use lib.ListN.{length, getD, take, length-take, List·getD-eq-default}
 use lib.Seq.{getD-take}
-use Rattle.meaning.specs.declared.Mode.{Mode}
 use Rattle.meaning.specs.declared.Row.{Row}
-use Rattle.meaning.specs.Score.{Mention}
-use Rattle.meaning.specs.Rank.{ranked, noRow}
+use Rattle.meaning.specs.Asked.{Asked}
+use Rattle.meaning.specs.Rank.{ranked, rowsAt, noRow}
 use Rattle.meaning.specs.Place.{spent}
-use Rattle.meaning.specs.Answer.{costAt, placeOf, filled, answerOf}
-
--- the numbers of an answer, by name
-abbrev pub placeIn : List ℕ → ℕ
-placeIn a = getD a 0 0
-
-abbrev pub foundIn : List ℕ → ℕ
-foundIn a = getD a 1 0
-
-abbrev pub scoredIn : List ℕ → ℕ
-scoredIn a = getD a 2 0
-
-abbrev pub rowIn : List ℕ → ℕ → Row
-rowIn a i = record { doc = getD a (3 + 2 * i) 0; score = getD a (4 + 2 * i) 0 }
-
--- the rows of an answer whose place is p: the best k among the matching documents below it
-abbrev pub rowsAt : Mode → List Mention → ℕ → ℕ → List Row
-rowsAt mode ms k p = take k (ranked mode ms p)
+use Rattle.meaning.specs.Answer.{costAt, placeOf, filled, answerOf, placeIn, foundIn, scoredIn, rowIn}
 
 filled-length : (k : ℕ) (l : List Row) → length (filled k l) ≡ 2 * k
 unfolding filled
@@ -57,50 +39,40 @@ filled-row (suc k) (r ∷ l) (suc i) h =
     let two : 2 * suc i ≡ suc (suc (2 * i)) = omega arith in
     rw two (filled-row k l i (omega arith))
 
-module _ (mode : Mode) (ms : List Mention) (k budget N : ℕ) where
-  -- the answer, its place and its rows
-  abbrev a : List ℕ
-  a = answerOf mode ms k budget N
-
-  abbrev p : ℕ
-  p = placeOf mode ms k budget N
-
-  abbrev rows : List Row
-  rows = rowsAt mode ms k p
-
+module _ (a : Asked) where
   -- "Each query fills exactly 3 + 2k numbers"
-  pub answer-length : length a ≡ 3 + 2 * k
+  pub answer-length : length (answerOf a) ≡ 3 + 2 * a .k
   unfolding answerOf
-  answer-length = omega (arith, filled-length k (ranked mode ms p))
+  answer-length = omega (arith, filled-length (a .k) (ranked a (placeOf a)))
 
   -- the answer from its place, its rows and its count alone, as a walk has them in the end
-  answer-is : a ≡ p ∷ length rows ∷ spent (costAt mode ms k) p ∷ filled k rows
+  answer-is : let rows = rowsAt a (placeOf a) in answerOf a ≡ placeOf a ∷ length rows ∷ spent (costAt a) (placeOf a) ∷ filled (a .k) rows
   unfolding answerOf
-  answer-is = rw (length-take k (ranked mode ms p), filled-take k (ranked mode ms p))
+  answer-is = let l = ranked a (placeOf a) in rw (length-take (a .k) l, filled-take (a .k) l)
 
   -- "place": where the stop rule puts it
-  pub answer-place : placeIn a ≡ p
+  pub answer-place : placeIn (answerOf a) ≡ placeOf a
   unfolding answerOf
   answer-place = refl
 
   -- "rows found"
-  pub answer-found : foundIn a ≡ length rows
+  pub answer-found : foundIn (answerOf a) ≡ length (rowsAt a (placeOf a))
   answer-found = ap foundIn answer-is
 
   -- "Postings scored is the sum of costs of visited documents below the place."
-  pub answer-scored : scoredIn a ≡ spent (costAt mode ms k) p
+  pub answer-scored : scoredIn (answerOf a) ≡ spent (costAt a) (placeOf a)
   unfolding answerOf
   answer-scored = refl
 
   -- "then document and score for each row"
-  pub answer-row : (i : ℕ) → i < k → rowIn a i ≡ getD rows i noRow
+  pub answer-row : (i : ℕ) → i < a .k → rowIn (answerOf a) i ≡ getD (rowsAt a (placeOf a)) i noRow
   unfolding answerOf
   answer-row i h =
-      let l = ranked mode ms p in
+      let l = ranked a (placeOf a) in
       let three : 3 + 2 * i ≡ suc (suc (suc (2 * i))) = omega arith in
       let four : 4 + 2 * i ≡ suc (suc (suc (suc (2 * i)))) = omega arith in
-      rw (three, four) (filled-row k l i h ∙ sym (getD-take k l i noRow h))
+      rw (three, four) (filled-row (a .k) l i h ∙ sym (getD-take (a .k) l i noRow h))
 
   -- "then zeros up to k rows"
-  pub answer-zeros : (i : ℕ) → i < k → foundIn a ≤ i → rowIn a i ≡ noRow
-  answer-zeros i h past = answer-row i h ∙ List·getD-eq-default rows noRow {n = i} (omega (arith, answer-found))
+  pub answer-zeros : (i : ℕ) → i < a .k → foundIn (answerOf a) ≤ i → rowIn (answerOf a) i ≡ noRow
+  answer-zeros i h past = answer-row i h ∙ List·getD-eq-default (rowsAt a (placeOf a)) noRow {n = i} (omega (arith, answer-found))

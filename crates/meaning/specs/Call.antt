@@ -1,7 +1,7 @@
 -- The whole call: the image's refusals, then the sheet's, then 15; or each query's answer in its own stretch.
 use Prim.Native.Nat.{ℕ, _+_, _*_}
 use mathlib.Core.List.{List, [], _∷_, _++_}
-use lib.ListN.{length, drop}
+use lib.ListN.{length, getD, take, drop}
 use lib.Dec.{leb}
 use Rattle.meaning.specs.declared.Outcome.{Outcome}
 use Rattle.meaning.specs.declared.Outcome.the-variants.{Done, Refused}
@@ -19,6 +19,10 @@ answers ix (q ∷ qs) = answer ix q ++ answers ix qs
 unfoldable pub needed : List Query → ℕ
 needed [] = 0
 needed (q ∷ qs) = 3 + 2 * q .k + needed qs
+
+-- query i's "own stretch of the answer row, which starts where the previous one ended"
+abbrev pub stretch : List Query → ℕ → Query → List ℕ → List ℕ
+stretch qs i d row = take (3 + 2 * getD qs i d .k) (drop (needed (take i qs)) row)
 
 -- "15 is last", its place the numbers needed
 unfoldable pub judged : List ℕ → List ℕ → List ℕ → Judged (List ℕ)

@@ -12,29 +12,24 @@ use Rattle.meaning.specs.Judged.{Judged, good, bad}
 use Rattle.meaning.specs.JudgedLaws.{bind-good, need-good, good-same}
 use Rattle.meaning.specs.Image.{Index, imageOf}
 use Rattle.meaning.specs.Sheet.{Query, sheetOf}
-use Rattle.meaning.specs.Score.{mentions}
+use Rattle.meaning.specs.Asked.{asked}
 use Rattle.meaning.specs.Answer.{answer}
-use Rattle.meaning.specs.Call.{answers, needed, judged, Called, ending, call}
-use Rattle.meaning.specs.ImageFits.{ImageFits}
-use Rattle.meaning.specs.SheetFits.{SheetFits}
+use Rattle.meaning.specs.Call.{answers, needed, stretch, judged, Called, ending, call}
+use Rattle.meaning.specs.CallFits.{CallFits}
 use Rattle.meaning.specs.AcceptLaws.{image-good, fit-image}
 use Rattle.meaning.specs.SheetLaws.{sheet-good, fit-sheet}
 use Rattle.meaning.specs.AnswerLaws.{answer-length}
 
 -- "Each query fills exactly 3 + 2k numbers"
 pub fills : (ix : Index) (q : Query) → length (answer ix q) ≡ 3 + 2 * q .k
-unfolding answer
-fills ix q = answer-length (q .mode) (mentions ix q) (q .k) (q .budget) (ix .docs)
+unfolding answer asked
+fills ix q = answer-length (asked ix q)
 
 -- "done with the count of numbers filled"
 pub answers-length : (ix : Index) (qs : List Query) → length (answers ix qs) ≡ needed qs
 unfolding answers needed
 answers-length ix [] = refl
 answers-length ix (q ∷ qs) = length-append (answer ix q) (answers ix qs) ∙ omega (arith, fills ix q, answers-length ix qs)
-
--- query i's "own stretch of the answer row, which starts where the previous one ended"
-abbrev pub stretch : List Query → ℕ → Query → List ℕ → List ℕ
-stretch qs i d row = take (3 + 2 * getD qs i d .k) (drop (needed (take i qs)) row)
 
 stretches : (ix : Index) (qs : List Query) (rest : List ℕ) (i : ℕ) → i < length qs → (d : Query) → stretch qs i d (answers ix qs ++ rest) ≡ answer ix (getD qs i d)
 unfolding answers needed
@@ -54,19 +49,6 @@ said-bad : (m : Judged (List ℕ)) (row : List ℕ) {n p : ℕ} → ending m row
 unfolding ending
 said-bad (bad n p) row e = cc
 said-bad (good a) row e = absurd (let z : _≡_ {A = ℕ} 0 1 = cc in omega arith)
-
--- "none is given otherwise": a call whose image, sheet and answer row no row of the table refuses, and the count of numbers that it fills
-pub record CallFits (image sheet row : List ℕ) (count : ℕ) : Type 0 where
-  pub index : Index
-  pub queries : List Query
-  -- 1 to 8
-  pub image-fits : ImageFits image index
-  -- 9 to 14
-  pub sheet-fits : SheetFits sheet (length (index .terms)) queries
-  -- 15: "answer row too short"
-  pub room : needed queries ≤ length row
-  -- "Each query fills exactly 3 + 2k numbers"
-  pub sum : count ≡ needed queries
 
 module _ (image sheet row : List ℕ) where
   -- a refusal is what judging says

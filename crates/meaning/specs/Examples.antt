@@ -6,9 +6,10 @@ use Rattle.meaning.specs.Judged.{Judged, good, bad}
 use Rattle.meaning.specs.Bits.{bitAt, bitsAt}
 use Rattle.meaning.specs.Image.{largestOf, nextOf, postingsAt, blockAt, blocksAt, termsAt, imageOf}
 use Rattle.meaning.specs.Sheet.{modeOf, pairsAt, queryAt, queriesAt, sheetOf}
-use Rattle.meaning.specs.Score.{impactAt, score, holders, matches, mentionOf, mentions}
+use Rattle.meaning.specs.Score.{impactAt, score, holders, matchesIn, mentionOf, mentions}
+use Rattle.meaning.specs.Asked.{asked, matches}
 use Rattle.meaning.specs.Rank.{outranks, insert, ranked, kth, bar}
-use Rattle.meaning.specs.Cost.{settle, ordered, P, last, aside, lookUps, visitAt, cost}
+use Rattle.meaning.specs.Cost.{settle, ordered, P, last, aside, lookUps, visitAt, costIn, cost}
 use Rattle.meaning.specs.Place.{spent, stops, first, place}
 use Rattle.meaning.specs.Answer.{costAt, placeOf, filled, answerOf, answer}
 use Rattle.meaning.specs.Call.{Called, answers, needed, judged, ending, call}
@@ -96,5 +97,5 @@ promised c = record { said = c .said; row = c .row }
 
 -- "P1 to P12 are proved as one table under a single claim"
 pub examples : map called cases ≡ map promised cases
-unfolding called promised I I7 I8 AB C lent cases bitAt bitsAt largestOf nextOf postingsAt blockAt blocksAt termsAt imageOf modeOf pairsAt queryAt queriesAt sheetOf impactAt score holders matches mentionOf mentions outranks insert ranked kth bar settle ordered P last aside lookUps visitAt cost spent stops first place costAt placeOf filled answerOf answer answers needed judged ending call
+unfolding called promised I I7 I8 AB C lent cases bitAt bitsAt largestOf nextOf postingsAt blockAt blocksAt termsAt imageOf modeOf pairsAt queryAt queriesAt sheetOf impactAt score holders matchesIn mentionOf mentions asked matches outranks insert ranked kth bar settle ordered P last aside lookUps visitAt costIn cost spent stops first place costAt placeOf filled answerOf answer answers needed judged ending call
 examples = refl

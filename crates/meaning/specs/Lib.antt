@@ -4,11 +4,15 @@ pub mod Layout
 pub mod Image
 pub mod Sheet
 pub mod Score
+pub mod Asked
 pub mod Rank
 pub mod Cost
 pub mod Place
 pub mod Answer
+pub mod Best
+pub mod Stop
 pub mod Call
+pub mod Promise
 pub mod Examples
 pub mod Worked
 pub mod Edges
@@ -22,6 +26,7 @@ pub mod TermLaws
 pub mod IndexLaws
 pub mod FillLaws
 pub mod SheetFits
+pub mod CallFits
 pub mod SheetLaws
 pub mod PlaceFits
 pub mod RefusalLaws

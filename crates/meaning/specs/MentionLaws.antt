@@ -9,6 +9,7 @@ use Rattle.meaning.specs.Judged.{good}
 use Rattle.meaning.specs.Image.{Index, imageOf}
 use Rattle.meaning.specs.Sheet.{Pair, Query}
 use Rattle.meaning.specs.Score.{Mention, noTerm, mentionOf, mentions, impactAt, score}
+use Rattle.meaning.specs.Asked.{asked}
 use Rattle.meaning.specs.Answer.{answer}
 use Rattle.meaning.specs.SheetFits.{PairFits, PairsFit, QueryFits}
 use Rattle.meaning.specs.ImageLaws.{impact-top}
@@ -69,7 +70,7 @@ module _ (s : List ℕ) (ix : Index) (e : imageOf s ≡ good ix) (sheet : List �
 
     -- "lent rows of 32-bit numbers": every number of the query's answer fits
     pub answer-fits : Each Word (answer ix q)
-    unfolding answer
+    unfolding answer asked
     answer-fits =
         let rows = f .rows in
-        answer-words (q .mode) (mentions ix q) (q .k) (q .budget) (ix .docs) mentions-few mentions-small (omega arith) (omega (arith, docs-small s ix e))
+        answer-words (asked ix q) mentions-few mentions-small (omega arith) (omega (arith, docs-small s ix e))

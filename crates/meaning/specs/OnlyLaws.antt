@@ -9,10 +9,12 @@ use Rattle.meaning.specs.declared.Outcome.the-variants.{Done, Refused}
 use Rattle.meaning.specs.Image.{Index, indexOf}
 use Rattle.meaning.specs.Sheet.{Query}
 use Rattle.meaning.specs.Answer.{answer}
-use Rattle.meaning.specs.Call.{says, call}
+use Rattle.meaning.specs.Call.{says, stretch, call}
+use Rattle.meaning.specs.Promise.{Promise}
+use Rattle.meaning.specs.CallFits.{CallFits}
 use Rattle.meaning.specs.AcceptLaws.{fit-image}
 use Rattle.meaning.specs.IndexLaws.{index-is}
-use Rattle.meaning.specs.CallLaws.{CallFits, stretch, stretch-at}
+use Rattle.meaning.specs.CallLaws.{stretch-at}
 
 -- "a definition that gives this paper's number and values for each of its cases": no two outcomes say the same
 says-same : (a b : Outcome) → says a ≡ says b → a ≡ b
@@ -21,11 +23,6 @@ says-same (Done m) (Done n) e = cc
 says-same (Done m) (Refused n p) e = absurd (let z : _≡_ {A = ℕ} 0 1 = cc in omega arith)
 says-same (Refused m q) (Done n) e = absurd (let z : _≡_ {A = ℕ} 0 1 = cc in omega arith)
 says-same (Refused m q) (Refused n p) e = cc
-
--- what a call promises of its outcome and its row
-pub record Promise (image sheet row : List ℕ) (outcome : Outcome) (after : List ℕ) : Type 0 where
-  pub outcome-is : says outcome ≡ call image sheet row .said
-  pub row-is : after ≡ call image sheet row .row
 
 -- "that no two outcomes satisfy it for one input is proved"
 pub call-only : (image sheet row : List ℕ) (a b : Outcome) (x y : List ℕ) → Promise image sheet row a x → Promise image sheet row b y → (a ≡ b) × (x ≡ y)

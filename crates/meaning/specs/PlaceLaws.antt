@@ -80,6 +80,10 @@ module _ (c : ℕ → ℕ) (q b : ℕ) where
   unfolding stops
   dear-stops d v h = rw (lt-ltb 0 (c d) v, lt-ltb b (spent c d + q) h)
 
+  pub stops-dear : (d : ℕ) → stops c q b d ≡ true → (0 < c d) × (b < spent c d + q)
+  unfolding stops
+  stops-dear d e = let both = both-true (ltb 0 (c d)) (ltb b (spent c d + q)) e in (ltb-true 0 (c d) (both .0), ltb-true b (spent c d + q) (both .1))
+
   pub place-le : (N : ℕ) → place c q b N ≤ N
   unfolding place
   place-le N = omega (arith, first-is (stops c q b) 0 N .high)
@@ -88,6 +92,11 @@ module _ (c : ℕ → ℕ) (q b : ℕ) where
   pub place-goes : (N d : ℕ) → d < place c q b N → stops c q b d ≡ false
   unfolding place
   place-goes N d h = first-is (stops c q b) 0 N .before d (omega arith) h
+
+  -- and the place does, unless it is N
+  pub place-found : (N : ℕ) → place c q b N < N → stops c q b (place c q b N) ≡ true
+  unfolding place
+  place-found N h = first-is (stops c q b) 0 N .found (omega arith)
 
   -- "The query stops before the first visited document d at which ..: the place is d."
   pub place-at : (N d : ℕ) → d < N → ((e : ℕ) → e < d → stops c q b e ≡ false) → stops c q b d ≡ true → place c q b N ≡ d

@@ -8,19 +8,14 @@ use lib.Dec.{eqb}
 use lib.ListN.{length}
 use borrow.Author.Tests.{ne-eqb}
 use Rattle.lists.specs.Tests.{by-test, by-order}
-use Rattle.meaning.specs.declared.Mode.{Mode}
 use Rattle.meaning.specs.Image.{Posting}
-use Rattle.meaning.specs.Score.{Mention, impactAt, held, holders}
+use Rattle.meaning.specs.Score.{Mention, impactAt, held, holders, allPostings}
+use Rattle.meaning.specs.Asked.{Asked}
 use Rattle.meaning.specs.Rank.{bar}
 use Rattle.meaning.specs.Place.{spent}
 use Rattle.meaning.specs.Answer.{costAt}
 use Rattle.meaning.specs.PlaceLaws.{spent-less}
 use Rattle.meaning.specs.VisitLaws.{cost-held}
-
--- the postings of all mentions' lists, a repeated term's once for each mention
-unfoldable pub allPostings : List Mention → ℕ
-allPostings [] = 0
-allPostings (m ∷ ms) = length (m .postings) + allPostings ms
 
 spent-sum : (f g : ℕ → ℕ) (p : ℕ) → spent (λ d. f d + g d) p ≡ spent f p + spent g p
 unfolding spent
@@ -69,7 +64,8 @@ lists-within [] p = omega (arith, spent-none (λ d. 0) (λ d. refl) p)
 lists-within (m ∷ ms) p = omega (arith, spent-sum (λ d. held m d) (holders ms) p, list-within (m .postings) p, lists-within ms p)
 
 -- postings scored are at most all postings of the mentions' lists
-pub within-postings : (mode : Mode) (ms : List Mention) (k p : ℕ) → spent (costAt mode ms k) p ≤ allPostings ms
+pub within-postings : (a : Asked) (p : ℕ) → spent (costAt a) p ≤ allPostings (a .mentions)
 unfolding costAt
-within-postings mode ms k p =
-    omega (arith, spent-less (costAt mode ms k) (holders ms) (λ d. cost-held mode ms (bar mode ms k d) d) p, lists-within ms p)
+within-postings a p =
+    let ms = a .mentions in
+    omega (arith, spent-less (costAt a) (holders ms) (λ d. cost-held a (bar a d) d) p, lists-within ms p)

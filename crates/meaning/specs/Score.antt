@@ -1,4 +1,4 @@
--- A query's mentions, a document's score, and which documents match.
+-- A query's mentions, a document's score, and which documents a mode matches.
 use Prim.Native.Nat.{ℕ, _+_, _*_}
 use mathlib.Core.Bool.{Bool, cond}
 use mathlib.Core.List.{List, [], _∷_, map}
@@ -49,8 +49,13 @@ unfoldable pub holders : List Mention → ℕ → ℕ
 holders [] d = 0
 holders (m ∷ ms) d = held m d + holders ms d
 
+-- "all postings in the query's lists", a repeated term's once for each mention
+unfoldable pub allPostings : List Mention → ℕ
+allPostings [] = 0
+allPostings (m ∷ ms) = length (m .postings) + allPostings ms
+
 -- "In modes 0 and 1 a document matches if some list holds it, in mode 2 if every mention's list does."
-unfoldable pub matches : Mode → List Mention → ℕ → Bool
-matches Plain ms d = ltb 0 (holders ms d)
-matches Pruned ms d = ltb 0 (holders ms d)
-matches All ms d = eqb (holders ms d) (length ms)
+unfoldable pub matchesIn : Mode → List Mention → ℕ → Bool
+matchesIn Plain ms d = ltb 0 (holders ms d)
+matchesIn Pruned ms d = ltb 0 (holders ms d)
+matchesIn All ms d = eqb (holders ms d) (length ms)

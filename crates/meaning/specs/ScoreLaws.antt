@@ -11,7 +11,8 @@ use Rattle.lists.specs.Tests.{by-zero}
 use Rattle.lists.specs.Each.{Each}
 use Rattle.meaning.specs.declared.Mode.{Mode}
 use Rattle.meaning.specs.declared.Mode.the-variants.{Plain, Pruned, All}
-use Rattle.meaning.specs.Score.{Mention, impactAt, held, score, holders, matches}
+use Rattle.meaning.specs.Score.{Mention, impactAt, held, score, holders, matchesIn}
+use Rattle.meaning.specs.Asked.{Asked, matches}
 
 -- no impact is above the list's largest
 abbrev pub Capped : List Mention → Type 0
@@ -65,11 +66,15 @@ module _ (d : ℕ) where
       held-by m (λ e l. omega (arith, mul-pos (w .0) l)) (λ e l. omega (arith, rest (omega arith)))
 
   -- so that a bar of 0 keeps no matching document out
-  pub matched-scores : (mode : Mode) (ms : List Mention) → Weighty ms → 0 < length ms → matches mode ms d ≡ true → 0 < score ms d
+  matched-in : (mode : Mode) (ms : List Mention) → Weighty ms → 0 < length ms → matchesIn mode ms d ≡ true → 0 < score ms d
+  unfolding matchesIn
+  matched-in Plain ms w h e = score-some ms w (ltb-true _ _ e)
+  matched-in Pruned ms w h e = score-some ms w (ltb-true _ _ e)
+  matched-in All ms w h e = score-some ms w (omega (arith, eqb-true))
+
+  pub matched-scores : (a : Asked) → Weighty (a .mentions) → 0 < length (a .mentions) → matches a d ≡ true → 0 < score (a .mentions) d
   unfolding matches
-  matched-scores Plain ms w h e = score-some ms w (ltb-true _ _ e)
-  matched-scores Pruned ms w h e = score-some ms w (ltb-true _ _ e)
-  matched-scores All ms w h e = score-some ms w (omega (arith, eqb-true))
+  matched-scores a w h e = matched-in (a .mode) (a .mentions) w h e
 
   pub score-split : (i : ℕ) (os : List Mention) → score os d ≡ score (take i os) d + score (drop i os) d
   unfolding score

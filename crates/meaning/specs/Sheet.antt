@@ -76,3 +76,8 @@ unfoldable pub sheetOf : List ℕ → ℕ → Judged (List Query)
 sheetOf s T = do
   _ ← need (within 1 64 (getD s 0 0)) 9 0
   queriesAt s T 0 1 (getD s 0 0)
+
+-- the numbers of a sheet that these queries take
+unfoldable pub numbersOf : List Query → ℕ
+numbersOf [] = 0
+numbersOf (q ∷ qs) = 4 + 2 * length (q .pairs) + numbersOf qs

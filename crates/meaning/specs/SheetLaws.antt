@@ -14,7 +14,7 @@ use Rattle.meaning.specs.declared.Mode.{Mode}
 use Rattle.meaning.specs.declared.Mode.the-variants.{Plain, Pruned, All}
 use Rattle.meaning.specs.Judged.{good}
 use Rattle.meaning.specs.JudgedLaws.{bind-good, need-good, good-same}
-use Rattle.meaning.specs.Sheet.{Pair, Query, within, modeOf, numberOf, pairsAt, queryAt, queriesAt, sheetOf}
+use Rattle.meaning.specs.Sheet.{Pair, Query, within, modeOf, numberOf, numbersOf, pairsAt, queryAt, queriesAt, sheetOf}
 use Rattle.meaning.specs.SheetFits.{Within, PairFits, PairsFit, QueryFits, QueriesFit, SheetFits}
 
 pub within-true : (low high n : ℕ) → within low high n ≡ true → Within low high n
@@ -103,11 +103,6 @@ fit-sheet s T qs f = rw (← f .count, true-within 1 64 (length qs) (f .some), f
 -- "The first fault found is the one given, and none is given otherwise": a sheet is accepted exactly when no condition of rows 9 to 14 holds
 pub sheet-exactly : (s : List ℕ) (T : ℕ) (qs : List Query) → (sheetOf s T ≡ good qs) ↔ SheetFits s T qs
 sheet-exactly s T qs = (sheet-good s T qs, fit-sheet s T qs)
-
--- the numbers of a sheet that these queries take
-unfoldable pub numbersOf : List Query → ℕ
-numbersOf [] = 0
-numbersOf (q ∷ qs) = 4 + 2 * length (q .pairs) + numbersOf qs
 
 queries-at : (s : List ℕ) (T at : ℕ) (qs : List Query) → QueriesFit s T at qs → (i : ℕ) → i < length qs → (d : Query) →
     QueryFits s T (at + numbersOf (take i qs)) (getD qs i d)

@@ -7,9 +7,10 @@ use Rattle.meaning.specs.Judged.{good}
 use Rattle.meaning.specs.Bits.{bitAt, bitsAt}
 use Rattle.meaning.specs.Image.{largestOf, nextOf, postingsAt, blockAt, blocksAt, termsAt, imageOf}
 use Rattle.meaning.specs.Sheet.{modeOf, pairsAt, queryAt, queriesAt, sheetOf}
-use Rattle.meaning.specs.Score.{impactAt, score, holders, matches, mentionOf, mentions}
+use Rattle.meaning.specs.Score.{impactAt, score, holders, matchesIn, mentionOf, mentions}
+use Rattle.meaning.specs.Asked.{asked, matches}
 use Rattle.meaning.specs.Rank.{outranks, insert, ranked, kth, bar}
-use Rattle.meaning.specs.Cost.{settle, ordered, P, last, aside, lookUps, visitAt, cost}
+use Rattle.meaning.specs.Cost.{settle, ordered, P, last, aside, lookUps, visitAt, costIn, cost}
 use Rattle.meaning.specs.Place.{spent, stops, first, place}
 use Rattle.meaning.specs.Answer.{costAt, placeOf, filled, answerOf, answer}
 use Rattle.meaning.specs.Call.{answers, needed, judged, ending, call}
@@ -35,5 +36,5 @@ lent = 9 ∷ 9 ∷ 9 ∷ 9 ∷ 9 ∷ 9 ∷ 9 ∷ 9 ∷ 9 ∷ 9 ∷ 9 ∷ 9 ∷ 9
 -- Mode 0 scores all 8 postings. Mode 1 has ceilings 7 and 12: it scores 1 at 3, 2 at 9 and, the bar being 5, 1 at 10; then the bar is 7,
 -- list 0 is set aside, 20 is not visited, and at 21 it stops, as 4 + 2 exceeds 5. Mode 2 scores 2 at 9 and stops at 21, as 2 + 2 exceeds 2
 pub worked : call D three lent ≡ record { said = good 21; row = 50 ∷ 3 ∷ 8 ∷ 21 ∷ 16 ∷ 9 ∷ 8 ∷ 10 ∷ 7 ∷ 21 ∷ 2 ∷ 4 ∷ 9 ∷ 8 ∷ 10 ∷ 7 ∷ 21 ∷ 1 ∷ 2 ∷ 9 ∷ 8 ∷ 9 ∷ [] }
-unfolding D three lent bitAt bitsAt largestOf nextOf postingsAt blockAt blocksAt termsAt imageOf modeOf pairsAt queryAt queriesAt sheetOf impactAt score holders matches mentionOf mentions outranks insert ranked kth bar settle ordered P last aside lookUps visitAt cost spent stops first place costAt placeOf filled answerOf answer answers needed judged ending call
+unfolding D three lent bitAt bitsAt largestOf nextOf postingsAt blockAt blocksAt termsAt imageOf modeOf pairsAt queryAt queriesAt sheetOf impactAt score holders matchesIn mentionOf mentions asked matches outranks insert ranked kth bar settle ordered P last aside lookUps visitAt costIn cost spent stops first place costAt placeOf filled answerOf answer answers needed judged ending call
 worked = refl

@@ -10,9 +10,9 @@ use Rattle.meaning.specs.Image.{Index}
 use Rattle.meaning.specs.Sheet.{Query, sheetOf}
 use Rattle.meaning.specs.SheetLaws.{sheet-good, fit-sheet, query-at}
 use Rattle.meaning.specs.Rank.{ranked}
-use Rattle.meaning.specs.Score.{mentions}
-use Rattle.meaning.specs.Answer.{placeOf, answer}
-use Rattle.meaning.specs.AnswerLaws.{foundIn, answer-found}
+use Rattle.meaning.specs.Asked.{asked}
+use Rattle.meaning.specs.Answer.{placeOf, answer, foundIn}
+use Rattle.meaning.specs.AnswerLaws.{answer-found}
 use Rattle.meaning.specs.Call.{needed, call}
 use Rattle.meaning.specs.CallLaws.{stretch-at, done-exactly, length-stays}
 use Rattle.sheet.specs.Record.{queryFrom}
@@ -23,11 +23,10 @@ use Rattle.printing.specs.Printable.{Printable}
 
 -- an answer finds no more than k rows
 found-high : (ix : Index) (q : Query) → foundIn (answer ix q) ≤ q .k
-unfolding answer
+unfolding answer asked
 found-high ix q =
-    let ms = mentions ix q in
-    let p = placeOf (q .mode) ms (q .k) (q .budget) (ix .docs) in
-    omega (arith, answer-found (q .mode) ms (q .k) (q .budget) (ix .docs), length-take (q .k) (ranked (q .mode) ms p))
+    let a = asked ix q in
+    omega (arith, answer-found a, length-take (q .k) (ranked a (placeOf a)))
 
 -- the second number of a stretch
 second : (row : List ℕ) (at k : ℕ) → foundIn (take (3 + 2 * k) (drop at row)) ≡ getD row (at + 1) 0

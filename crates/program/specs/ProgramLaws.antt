@@ -10,7 +10,8 @@ use Rattle.meaning.specs.AcceptLaws.{fit-image}
 use Rattle.meaning.specs.SheetLaws.{fit-sheet}
 use Rattle.meaning.specs.Sheet.{sheetOf}
 use Rattle.meaning.specs.Call.{call}
-use Rattle.meaning.specs.CallLaws.{CallFits, done-exactly}
+use Rattle.meaning.specs.CallFits.{CallFits}
+use Rattle.meaning.specs.CallLaws.{done-exactly}
 use Rattle.printing.specs.declared.Decision.{Decision}
 use Rattle.printing.specs.declared.Decision.the-variants.{NoFile, TooLarge, OddSheet, Go}
 use Rattle.printing.specs.Text.{refusedLine, sheetLines}

@@ -8,8 +8,9 @@ use Rattle.meaning.specs.declared.Mode.{Mode}
 use Rattle.meaning.specs.declared.Mode.the-variants.{Plain, Pruned, All}
 use Rattle.meaning.specs.declared.Row.{Row}
 use Rattle.meaning.specs.Score.{Mention, holders}
-use Rattle.meaning.specs.Rank.{insert, ranked, bar}
-use Rattle.meaning.specs.Cost.{Tally, ordered, P, aside, visitAt, cost}
+use Rattle.meaning.specs.Asked.{Asked}
+use Rattle.meaning.specs.Rank.{insert, rowsAt, bar}
+use Rattle.meaning.specs.Cost.{Tally, ordered, P, aside, visitAt, costIn, cost}
 use Rattle.meaning.specs.OrderedLaws.{ordered-length}
 use Rattle.meaning.specs.AsideLaws.{aside-le, aside-low}
 use Rattle.meaning.specs.PruneLaws.{visit-some, unvisited}
@@ -36,45 +37,50 @@ aside-in-low Plain os b = omega arith
 aside-in-low Pruned os b = aside-low os b
 aside-in-low All os b = omega arith
 
-module _ (mode : Mode) (by : BySome mode) (ms : List Mention) (fit : Fit ms) (k : ℕ) where
-  costs-in : (m : Mode) → BySome m → (b d : ℕ) → cost m ms b d ≡ visitAt (ordered ms) b (asideIn m (ordered ms) b) d .count
-  unfolding asideIn cost
-  costs-in Plain y b d = plain-cost-ordered ms b d
-  costs-in Pruned y b d = refl
-  costs-in All y b d = absurd y
+costs-in : (m : Mode) → BySome m → (ms : List Mention) (b d : ℕ) → costIn m ms b d ≡ visitAt (ordered ms) b (asideIn m (ordered ms) b) d .count
+unfolding asideIn costIn
+costs-in Plain y ms b d = plain-cost-ordered ms b d
+costs-in Pruned y ms b d = refl
+costs-in All y ms b d = absurd y
 
-  -- what the mode visits where the bar is b
-  seen : ℕ → ℕ → Tally
-  seen b = visitAt (ordered ms) b (asideIn mode (ordered ms) b)
+module _ (a : Asked) (by : BySome (a .mode)) (fit : Fit (a .mentions)) where
+  -- the mentions in order of their ceilings, how many of them are set aside where the bar is b, and what is then visited
+  abbrev os : List Mention
+  os = ordered (a .mentions)
 
-  rank : (b : ℕ) → asideIn mode (ordered ms) b ≤ length ms
-  rank b = omega (arith, aside-in-le mode (ordered ms) b, ordered-length ms)
+  abbrev j : ℕ → ℕ
+  j b = asideIn (a .mode) os b
+
+  abbrev seen : ℕ → ℕ → Tally
+  seen b = visitAt os b (j b)
+
+  rank : (b : ℕ) → j b ≤ length (a .mentions)
+  rank b = omega (arith, aside-in-le (a .mode) os b, ordered-length (a .mentions))
 
   -- the table that document d leaves, where it enters with this sum
-  entered : ℕ → ℕ → List Row
-  entered d sum = take k (insert (record { doc = d; score = sum }) (take k (ranked mode ms d)))
+  abbrev entered : ℕ → ℕ → List Row
+  entered d sum = take (a .k) (insert (record { doc = d; score = sum }) (rowsAt a d))
 
-  keeps-in : (b d : ℕ) → bar mode ms k d ≡ b → seen b d .sum ≤ b → take k (ranked mode ms (suc d)) ≡ take k (ranked mode ms d)
-  unfolding seen
+  keeps-in : (b d : ℕ) → bar a d ≡ b → seen b d .sum ≤ b → rowsAt a (suc d) ≡ rowsAt a d
   keeps-in b d e low =
-      let h = bar mode ms k d in
-      visit-keeps ms fit k d (asideIn mode (ordered ms) h) (rank h) mode (aside-in-low mode (ordered ms) h) (subst (λ (x : ℕ). seen x d .sum ≤ x) (sym e) low)
+      let h = bar a d in
+      visit-keeps a fit d (j h) (rank h) (aside-in-low (a .mode) os h) (subst (λ (x : ℕ). seen x d .sum ≤ x) (sym e) low)
 
-  enters-in : (b d : ℕ) → bar mode ms k d ≡ b → b < seen b d .sum → take k (ranked mode ms (suc d)) ≡ entered d (seen b d .sum)
-  unfolding seen entered
+  enters-in : (b d : ℕ) → bar a d ≡ b → b < seen b d .sum → rowsAt a (suc d) ≡ entered d (seen b d .sum)
   enters-in b d e high =
-      let h = bar mode ms k d in
-      subst (λ (x : ℕ). take k (ranked mode ms (suc d)) ≡ entered d (seen x d .sum)) e
-      (visit-enters ms fit k d (asideIn mode (ordered ms) h) (rank h) mode by (subst (λ (x : ℕ). x < seen x d .sum) (sym e) high))
+      let h = bar a d in
+      subst (λ (x : ℕ). rowsAt a (suc d) ≡ entered d (seen x d .sum)) e
+      (visit-enters a fit d (j h) (rank h) by (subst (λ (x : ℕ). x < seen x d .sum) (sym e) high))
 
-  pub any-visits : (b budget : ℕ) → Visits mode ms k budget b (visitAt (ordered ms) b (asideIn mode (ordered ms) b))
-  unfolding seen entered
-  any-visits b budget =
-      let os = ordered ms in
-      let j = asideIn mode os b in
+  pub any-visits : (b : ℕ) → Visits a b (visitAt (ordered (a .mentions)) b (asideIn (a .mode) (ordered (a .mentions)) b))
+  unfolding cost
+  any-visits b =
       record {
-        costs = λ d. costs-in mode by b d;
-        rests = λ d none. by-zero (holders (drop j os) d) (λ z. ap (λ (t : Tally). t .sum) (unvisited os b d j z)) (λ some. absurd (omega (arith, visit-some os b d j (aside-in-le mode os b) some)));
+        costs = λ d. costs-in (a .mode) by (a .mentions) b d;
+        rests = λ d none.
+            by-zero (holders (drop (j b) os) d)
+            (λ z. ap (λ (t : Tally). t .sum) (unvisited os b d (j b) z))
+            (λ some. absurd (omega (arith, visit-some os b d (j b) (aside-in-le (a .mode) os b) some)));
         keeps = λ d e low. keeps-in b d e low;
         enters = λ d e high. enters-in b d e high;
       }

@@ -11,6 +11,7 @@ use Rattle.meaning.specs.declared.Row.{Row}
 use Rattle.meaning.specs.Image.{indexOf}
 use Rattle.meaning.specs.Place.{spent}
 use Rattle.meaning.specs.Score as sc
+use Rattle.meaning.specs.Asked.{Asked}
 use Rattle.meaning.specs.Rank.{ranked, kth, insert}
 use Rattle.meaning.specs.Cost.{Tally}
 use Rattle.meaning.specs.RankLaws.{Under}
@@ -45,11 +46,15 @@ pub record Ground (s : List ℕ) (q k budget N : ℕ) (first : List Mention) (μ
   pub same : meetAt (meantOf s q first) ≡ meetAt μs
 
 module _ {s : List ℕ} {q k budget N : ℕ} {first : List Mention} {μs : List sc.Mention} (g : Ground s q k budget N first μs) where
+  -- what is asked
+  abbrev a : Asked
+  a = record { mode = All; mentions = μs; k = k; budget = budget; docs = N }
+
   -- before each walk
   pub record Going (os : List Mention) (table : Table) (b count past : ℕ) : Type 0 where
     pub meets : Meets s os q past count
     pub means : meantOf s q os ≡ meantOf s q first
-    pub reached : Reached All μs k budget (past - 1) count (rowsOf table)
+    pub reached : Reached a (past - 1) count (rowsOf table)
     pub barred : kth k (rowsOf table) ≡ b
     pub within : table .len ≤ k
     pub size : table .len ≡ length (rowsOf table)
@@ -66,47 +71,54 @@ module _ {s : List ℕ} {q k budget N : ℕ} {first : List Mention} {μs : List 
         size = len ∙ sym (ap length none-yet);
       }
 
-  module _ {os : List Mention} {table : Table} {b count past : ℕ} (w : Going os table b count past) (r : Visit) (e : runOf (indexOf s .docs) r ≡ meetBy s (meantOf s q os) b q budget past count) where
+  module _ {os : List Mention} {table : Table} {b count past : ℕ} (w : Going os table b count past) (r : Visit)
+      (e : runOf (indexOf s .docs) r ≡ meetBy s (meantOf s q os) b q budget past count) where
     run-is : runOf (indexOf s .docs) r ≡ runFrom (meetAt μs) b (length μs) budget (past - 1) count (N - (past - 1))
     run-is =
         rw (g .docs, g .whole)
         (e ∙ ap (λ (l : List sc.Mention). meetBy s l b q budget past count) (w .means)
         ∙ ap (λ (v : ℕ → Tally). runFrom v b q budget (past - 1) count (indexOf s .docs - (past - 1))) (g .same))
 
-    ended : Ended All μs k budget N (rowsOf table) (runOf (indexOf s .docs) r)
+    ended : Ended a (rowsOf table) (runOf (indexOf s .docs) r)
     ended =
         let least = w .meets .least in
         let most = w .meets .most in
-        subst (Ended All μs k budget N (rowsOf table)) (sym run-is)
-        (run-keeps All μs k budget N b (meetAt μs) (all-visits μs (g .fit) k b budget) (N - (past - 1)) (past - 1) count (rowsOf table) (w .reached) (w .barred) (omega (arith, g .docs)))
+        subst (Ended a (rowsOf table)) (sym run-is)
+        (run-keeps a b (meetAt μs) (all-visits a refl (g .fit) b) (N - (past - 1)) (past - 1) count (rowsOf table) (w .reached) (w .barred) (omega (arith, g .docs)))
 
-    ends : (t : Turn) → r .turn ≡ t → EndedBy All μs k budget N (rowsOf table) t (docOf (indexOf s .docs) (r .past)) (r .sum) (r .count)
-    ends t is = subst (λ (x : Turn). EndedBy All μs k budget N (rowsOf table) x (docOf (indexOf s .docs) (r .past)) (r .sum) (r .count)) is ended
+    ends : (t : Turn) → r .turn ≡ t → EndedBy a (rowsOf table) t (docOf (indexOf s .docs) (r .past)) (r .sum) (r .count)
+    ends t is = subst (λ (x : Turn). EndedBy a (rowsOf table) x (docOf (indexOf s .docs) (r .past)) (r .sum) (r .count)) is ended
 
-    pub going-finished : r .turn ≡ Finished → FoundBy All μs k budget N (record { table = table; place = N; scored = r .count })
+    pub going-finished : r .turn ≡ Finished → FoundBy a (record { table = table; place = N; scored = r .count })
     going-finished is =
-        record { found = found-end All μs k budget N (r .count) (rowsOf table) (ends Finished is .1); within = w .within; size = w .size }
+        record { found = found-end a (r .count) (rowsOf table) (ends Finished is .1); within = w .within; size = w .size }
 
     doc-is : docOf (indexOf s .docs) (r .past) < N → docOf (indexOf s .docs) (r .past) ≡ r .past - 1
     doc-is below = doc-some (indexOf s .docs) (r .past) (λ z. omega (arith, doc-none (indexOf s .docs) (r .past) z, g .docs))
 
-    pub going-stopped : r .turn ≡ Stopped → FoundBy All μs k budget N (record { table = table; place = r .past - 1; scored = r .count })
+    pub going-stopped : r .turn ≡ Stopped → FoundBy a (record { table = table; place = r .past - 1; scored = r .count })
     going-stopped is =
         let x = ends Stopped is in
         record {
-          found = subst (λ (d : ℕ). Found All μs k budget N d (r .count) (rowsOf table)) (doc-is (x .0)) (found-stop All μs k budget N (docOf (indexOf s .docs) (r .past)) (r .count) (rowsOf table) (x .0) (x .1) (x .2));
+          found =
+              subst (λ (d : ℕ). Found a d (r .count) (rowsOf table)) (doc-is (x .0))
+              (found-stop a (docOf (indexOf s .docs) (r .past)) (r .count) (rowsOf table) (x .0) (x .1) (x .2));
           within = w .within;
           size = w .size;
         }
 
     -- a document entered
     module _ (is : r .turn ≡ Entered) (some : 0 < r .past) (l : Leaves s (meantOf s q os) q r) where
-      entered-reached : Reached All μs k budget (r .past) (r .count) (take k (insert (record { doc = r .past - 1; score = r .sum }) (rowsOf table)))
+      -- the table with document d entered
+      abbrev with-it : ℕ → List Row
+      with-it d = take k (insert (record { doc = d; score = r .sum }) (rowsOf table))
+
+      entered-reached : Reached a (r .past) (r .count) (with-it (r .past - 1))
       entered-reached =
           let x = ends Entered is in
           let there : suc (docOf (indexOf s .docs) (r .past)) ≡ r .past = omega (arith, doc-is (x .0)) in
-          subst (λ (d : ℕ). Reached All μs k budget d (r .count) (take k (insert (record { doc = r .past - 1; score = r .sum }) (rowsOf table)))) there
-          (subst (λ (d : ℕ). Reached All μs k budget (suc (docOf (indexOf s .docs) (r .past))) (r .count) (take k (insert (record { doc = d; score = r .sum }) (rowsOf table)))) (doc-is (x .0)) (x .1))
+          subst (λ (d : ℕ). Reached a d (r .count) (with-it (r .past - 1))) there
+          (subst (λ (d : ℕ). Reached a (suc (docOf (indexOf s .docs) (r .past))) (r .count) (with-it d)) (doc-is (x .0)) (x .1))
 
       no-earlier : past - 1 ≤ r .past - 1
       no-earlier =
@@ -116,9 +128,9 @@ module _ {s : List ℕ} {q k budget N : ℕ} {first : List Mention} {μs : List 
       pub entered-under : Under (r .past - 1) (rowsOf table)
       entered-under =
           let early = no-earlier in
-          each-more (λ (x : Row). x .doc < past - 1) (λ (x : Row). x .doc < r .past - 1) (λ x h. omega arith) (rowsOf table) (stands-under All μs k (past - 1) table (w .reached .ranks))
+          each-more (λ (x : Row). x .doc < past - 1) (λ (x : Row). x .doc < r .past - 1) (λ x h. omega arith) (rowsOf table) (stands-under a (past - 1) table (w .reached .ranks))
 
-      pub going-entered : (next : Table) → rowsOf next ≡ take k (insert (record { doc = r .past - 1; score = r .sum }) (rowsOf table)) →
+      pub going-entered : (next : Table) → rowsOf next ≡ with-it (r .past - 1) →
           next .len ≤ k → next .len ≡ length (rowsOf next) → Going (r .ms) next (kth k (rowsOf next)) (r .count) (r .next)
       going-entered next rows within size =
           let there : r .next - 1 ≡ r .past = omega (arith, l .next) in

@@ -11,6 +11,7 @@ use Rattle.meaning.specs.declared.Row.{Row}
 use Rattle.meaning.specs.Image.{indexOf}
 use Rattle.meaning.specs.Place.{spent}
 use Rattle.meaning.specs.Score as sc
+use Rattle.meaning.specs.Asked.{Asked}
 use Rattle.meaning.specs.Rank.{ranked, kth, insert}
 use Rattle.meaning.specs.Cost.{noMention, ordered, P, aside, last, atMost, ceiling, visitAt}
 use Rattle.meaning.specs.OrderedLaws.{ordered-length}
@@ -107,7 +108,9 @@ module _ {s : List ℕ} {ms : List Mention} {q k N : ℕ} (v : Served s ms q k N
       -- in mode 0 none is set aside, in mode 1 those whose ceilings are at most the bar
       pub limit-ranks : (pruned : Bool) (limit : ℕ) → limit ≡ cond pruned q 0 → (b : ℕ) → asideOf pre limit b ≡ asideIn (modeFor pruned) (ordered (meantOf s q ms)) b
       unfolding asideIn last
-      limit-ranks true limit e b = rw e (aside-meant os q pre sums s (ordered-each (Weighed s) (λ x h. v .stands x h .fair .weighed)) (omega (arith, ordered-long, v .few)) b ∙ ap (λ (l : List sc.Mention). aside l b) ordered-meant)
+      limit-ranks true limit e b =
+          let weighed = ordered-each (Weighed s) (λ x h. v .stands x h .fair .weighed) in
+          rw e (aside-meant os q pre sums s weighed (omega (arith, ordered-long, v .few)) b ∙ ap (λ (l : List sc.Mention). aside l b) ordered-meant)
       limit-ranks false limit e b = rw e refl
 
 -- what the whole query is served with: its mentions, and the sums of their ceilings in order
@@ -126,8 +129,12 @@ pub record Ground (s : List ℕ) (q k budget N : ℕ) (pruned : Bool) (pre : Lis
   pub rises : Rising pre limit
 
 module _ {s : List ℕ} {q k budget N : ℕ} {pruned : Bool} {pre : List ℕ} {limit : ℕ} {first : List Mention} {μs : List sc.Mention} (g : Ground s q k budget N pruned pre limit first μs) where
+  -- what is asked
+  abbrev a : Asked
+  a = record { mode = modeFor pruned; mentions = μs; k = k; budget = budget; docs = N }
+
   abbrev pub Here : List Mention → List Row → ℕ → ℕ → ℕ → ℕ → Type 0
-  Here = Between s (modeFor pruned) (some-by pruned) μs (g .fit) q k budget N (g .whole) (g .few) (g .docs) (g .small)
+  Here = Between s a (some-by pruned) (g .fit) q (g .whole) (g .few) (g .docs) (g .small)
 
   -- before each walk
   pub record Going (os : List Mention) (table : Table) (b count j past : ℕ) : Type 0 where
@@ -165,7 +172,7 @@ module _ {s : List ℕ} {q k budget N : ℕ} {pruned : Bool} {pre : List ℕ} {l
 
   module _ {os : List Mention} {table : Table} {b count j past : ℕ} (w : Going os table b count j past) where
     pub going-starts : Starts s os pre j q past count
-    going-starts = between-starts s (modeFor pruned) (some-by pruned) μs (g .fit) q k budget N (g .whole) (g .few) (g .docs) (g .small) os (rowsOf table) b count j past (w .here) pre (g .sums)
+    going-starts = between-starts s a (some-by pruned) (g .fit) q (g .whole) (g .few) (g .docs) (g .small) os (rowsOf table) b count j past (w .here) pre (g .sums)
 
     -- P(j) is at most the bar
     pub rank-low : (j ≤ limit) × (getD pre j 0 ≤ b)
@@ -179,50 +186,56 @@ module _ {s : List ℕ} {q k budget N : ℕ} {pruned : Bool} {pre : List ℕ} {l
     means-now = placed-meant (w .here .placed) (ordered-length μs ∙ g .whole) (omega (arith, w .here .long, g .few))
 
     module _ (r : Visit) (e : runOf (indexOf s .docs) r ≡ runBy s (meantOf s q os) b j q budget past count) where
-      ends : (t : Turn) → r .turn ≡ t → EndedBy (modeFor pruned) μs k budget N (rowsOf table) t (docOf (indexOf s .docs) (r .past)) (r .sum) (r .count)
+      ends : (t : Turn) → r .turn ≡ t → EndedBy a (rowsOf table) t (docOf (indexOf s .docs) (r .past)) (r .sum) (r .count)
       ends t is =
-          subst (λ (x : Turn). EndedBy (modeFor pruned) μs k budget N (rowsOf table) x (docOf (indexOf s .docs) (r .past)) (r .sum) (r .count)) is
-          (between-ends s (modeFor pruned) (some-by pruned) μs (g .fit) q k budget N (g .whole) (g .few) (g .docs) (g .small) os (rowsOf table) b count j past (w .here) (runOf (indexOf s .docs) r) e)
+          subst (λ (x : Turn). EndedBy a (rowsOf table) x (docOf (indexOf s .docs) (r .past)) (r .sum) (r .count)) is
+          (between-ends s a (some-by pruned) (g .fit) q (g .whole) (g .few) (g .docs) (g .small) os (rowsOf table) b count j past (w .here) (runOf (indexOf s .docs) r) e)
 
       -- the walk came to its end
-      pub going-finished : r .turn ≡ Finished → FoundBy (modeFor pruned) μs k budget N (record { table = table; place = N; scored = r .count })
+      pub going-finished : r .turn ≡ Finished → FoundBy a (record { table = table; place = N; scored = r .count })
       going-finished is =
-          record { found = found-end (modeFor pruned) μs k budget N (r .count) (rowsOf table) (ends Finished is .1); within = w .within; size = w .size }
+          record { found = found-end a (r .count) (rowsOf table) (ends Finished is .1); within = w .within; size = w .size }
 
       -- where a document is, the number is the document plus one
       doc-is : docOf (indexOf s .docs) (r .past) < N → docOf (indexOf s .docs) (r .past) ≡ r .past - 1
       doc-is below = doc-some (indexOf s .docs) (r .past) (λ z. omega (arith, doc-none (indexOf s .docs) (r .past) z, g .docs))
 
       -- it was stopped
-      pub going-stopped : r .turn ≡ Stopped → FoundBy (modeFor pruned) μs k budget N (record { table = table; place = r .past - 1; scored = r .count })
+      pub going-stopped : r .turn ≡ Stopped → FoundBy a (record { table = table; place = r .past - 1; scored = r .count })
       going-stopped is =
           let x = ends Stopped is in
           record {
-            found = subst (λ (d : ℕ). Found (modeFor pruned) μs k budget N d (r .count) (rowsOf table)) (doc-is (x .0)) (found-stop (modeFor pruned) μs k budget N (docOf (indexOf s .docs) (r .past)) (r .count) (rowsOf table) (x .0) (x .1) (x .2));
+            found =
+                subst (λ (d : ℕ). Found a d (r .count) (rowsOf table)) (doc-is (x .0))
+                (found-stop a (docOf (indexOf s .docs) (r .past)) (r .count) (rowsOf table) (x .0) (x .1) (x .2));
             within = w .within;
             size = w .size;
           }
 
       -- a document entered
       module _ (is : r .turn ≡ Entered) (l : Leaves s (meantOf s q os) j r) where
+        -- the table with document d entered
+        abbrev with-it : ℕ → List Row
+        with-it d = take k (insert (record { doc = d; score = r .sum }) (rowsOf table))
+
         entered-below : r .past - 1 < N
         entered-below = let x = ends Entered is .0 in omega (arith, doc-is x)
 
-        entered-reached : Reached (modeFor pruned) μs k budget (r .past) (r .count) (take k (insert (record { doc = r .past - 1; score = r .sum }) (rowsOf table)))
+        entered-reached : Reached a (r .past) (r .count) (with-it (r .past - 1))
         entered-reached =
             let x = ends Entered is in
             let there : suc (docOf (indexOf s .docs) (r .past)) ≡ r .past = omega (arith, doc-is (x .0), l .some) in
-            subst (λ (d : ℕ). Reached (modeFor pruned) μs k budget d (r .count) (take k (insert (record { doc = r .past - 1; score = r .sum }) (rowsOf table)))) there
-            (subst (λ (d : ℕ). Reached (modeFor pruned) μs k budget (suc (docOf (indexOf s .docs) (r .past))) (r .count) (take k (insert (record { doc = d; score = r .sum }) (rowsOf table)))) (doc-is (x .0)) (x .1))
+            subst (λ (d : ℕ). Reached a d (r .count) (with-it (r .past - 1))) there
+            (subst (λ (d : ℕ). Reached a (suc (docOf (indexOf s .docs) (r .past))) (r .count) (with-it d)) (doc-is (x .0)) (x .1))
 
         -- the table with it, the bar that it makes, and the mentions that are now set aside
-        pub going-entered : {next : Table} {rank past′ : ℕ} → rowsOf next ≡ take k (insert (record { doc = r .past - 1; score = r .sum }) (rowsOf table)) → next .len ≤ k → next .len ≡ length (rowsOf next) →
+        pub going-entered : {next : Table} {rank past′ : ℕ} → rowsOf next ≡ with-it (r .past - 1) → next .len ≤ k → next .len ≡ length (rowsOf next) →
             rank ≡ asideOf pre limit (kth k (rowsOf next)) → past′ ≡ nextAt (drop rank (ordered μs)) (r .past) → Going (r .ms) next (kth k (rowsOf next)) (r .count) rank past′
         going-entered {next} {rank} {past′} rows within size ranks coming =
             let there : suc (r .past - 1) ≡ r .past = omega (arith, l .some) in
             record {
               here =
-                  between-enters s (modeFor pruned) (some-by pruned) μs (g .fit) q k budget N (g .whole) (g .few) (g .docs) (g .small) os (rowsOf table) b count j past (w .here) (runOf (indexOf s .docs) r) e
+                  between-enters s a (some-by pruned) (g .fit) q (g .whole) (g .few) (g .docs) (g .small) os (rowsOf table) b count j past (w .here) (runOf (indexOf s .docs) r) e
                   (r .past - 1) (r .count) (doc-is (ends Entered is .0)) (rowsOf next) entered-below (rw (there, rows) entered-reached) (r .ms) (l .long) (l .placed) rank past′ (ranks ∙ g .ranks (kth k (rowsOf next))) (rw there coming);
               within = within;
               size = size;
@@ -238,16 +251,16 @@ module _ {s : List ℕ} {q k budget N : ℕ} {pruned : Bool} {pre : List ℕ} {l
         -- every document in the table is an earlier one
         pub entered-under : Under (r .past - 1) (rowsOf table)
         entered-under =
-            let early = no-earlier s (modeFor pruned) (some-by pruned) μs (g .fit) q k budget N (g .whole) (g .few) (g .docs) (g .small) os (rowsOf table) b count j past (w .here) (runOf (indexOf s .docs) r) e in
-            each-more (λ (x : Row). x .doc < w .here .p) (λ (x : Row). x .doc < r .past - 1) (λ x h. omega (arith, doc-is (ends Entered is .0))) (rowsOf table) (stands-under (modeFor pruned) μs k (w .here .p) table (w .here .reached .ranks))
+            let early = no-earlier s a (some-by pruned) (g .fit) q (g .whole) (g .few) (g .docs) (g .small) os (rowsOf table) b count j past (w .here) (runOf (indexOf s .docs) r) e in
+            each-more (λ (x : Row). x .doc < w .here .p) (λ (x : Row). x .doc < r .past - 1) (λ x h. omega (arith, doc-is (ends Entered is .0))) (rowsOf table) (stands-under a (w .here .p) table (w .here .reached .ranks))
 
         -- the rank only rises
-        module _ (next : Table) (rows : rowsOf next ≡ take k (insert (record { doc = r .past - 1; score = r .sum }) (rowsOf table))) where
+        module _ (next : Table) (rows : rowsOf next ≡ with-it (r .past - 1)) where
           risen : b ≤ kth k (rowsOf next)
           risen =
               let there : suc (r .past - 1) ≡ r .past = omega (arith, l .some) in
-              let early = no-earlier s (modeFor pruned) (some-by pruned) μs (g .fit) q k budget N (g .whole) (g .few) (g .docs) (g .small) os (rowsOf table) b count j past (w .here) (runOf (indexOf s .docs) r) e in
-              bar-rises s (modeFor pruned) (some-by pruned) μs (g .fit) q k budget N (g .whole) (g .few) (g .docs) (g .small) os (rowsOf table) b count j past (w .here) (r .past - 1) (r .count) (rowsOf next) (omega (arith, doc-is (ends Entered is .0))) (rw (there, rows) entered-reached)
+              let early = no-earlier s a (some-by pruned) (g .fit) q (g .whole) (g .few) (g .docs) (g .small) os (rowsOf table) b count j past (w .here) (runOf (indexOf s .docs) r) e in
+              bar-rises s a (some-by pruned) (g .fit) q (g .whole) (g .few) (g .docs) (g .small) os (rowsOf table) b count j past (w .here) (r .past - 1) (r .count) (rowsOf next) (omega (arith, doc-is (ends Entered is .0))) (rw (there, rows) entered-reached)
 
           pub rank-below : (j ≤ limit) × (getD pre j 0 ≤ kth k (rowsOf next))
           rank-below = (rank-low .0, omega (arith, rank-low .1, risen))

@@ -12,6 +12,7 @@ use Rattle.meaning.specs.declared.Mode.the-variants.{Plain, Pruned, All}
 use Rattle.meaning.specs.declared.Row.{Row}
 use Rattle.meaning.specs.Image.{indexOf}
 use Rattle.meaning.specs.Score as sc
+use Rattle.meaning.specs.Asked.{Asked}
 use Rattle.meaning.specs.Rank.{kth, bar}
 use Rattle.meaning.specs.Cost.{Tally, noMention, ordered, P, visitAt}
 use Rattle.meaning.specs.Answer.{costAt}
@@ -34,10 +35,10 @@ use Rattle.visit.specs.PlacedLaws.{placed-meant, placed-rises}
 use Rattle.visit.specs.Walk.{meantOf, Starts, runBy}
 
 -- the bar never falls from one document to a later one
-bar-grows : (mode : Mode) (ms : List sc.Mention) (k p d : ℕ) → p ≤ d → bar mode ms k p ≤ bar mode ms k d
-bar-grows mode ms k p zero h = let same : p ≡ 0 = omega arith in rw same (omega arith)
-bar-grows mode ms k p (suc d) h =
-    by-order d p (λ l. let same : p ≡ suc d = omega arith in rw same (omega arith)) (λ l. omega (arith, bar-grows mode ms k p d l, bar-up mode ms k d))
+bar-grows : (a : Asked) (p d : ℕ) → p ≤ d → bar a p ≤ bar a d
+bar-grows a p zero h = let same : p ≡ 0 = omega arith in rw same (omega arith)
+bar-grows a p (suc d) h =
+    by-order d p (λ l. let same : p ≡ suc d = omega arith in rw same (omega arith)) (λ l. omega (arith, bar-grows a p d l, bar-up a d))
 
 -- a higher bar sets no fewer aside
 pub aside-in-up : (mode : Mode) (os : List sc.Mention) (b b′ : ℕ) → b ≤ b′ → asideIn mode os b ≤ asideIn mode os b′
@@ -61,90 +62,101 @@ placed-later s os j p D ms pl later before =
           stands-later st D later (omega arith);
     }
 
-module _ (s : List ℕ) (mode : Mode) (by : BySome mode) (μs : List sc.Mention) (fit : Fit μs) (q k budget N : ℕ) (whole : length μs ≡ q) (few : q ≤ 16) (docs : N ≡ indexOf s .docs) (small : N < 16777216) where
+module _ (s : List ℕ) (a : Asked) (by : BySome (a .mode)) (fit : Fit (a .mentions)) (q : ℕ) (whole : length (a .mentions) ≡ q) (few : q ≤ 16)
+    (docs : a .docs ≡ indexOf s .docs) (small : a .docs < 16777216) where
+  -- the mentions in order of their ceilings
+  abbrev os : List sc.Mention
+  os = ordered (a .mentions)
+
   -- before document p: every document below it is done, the mentions stand at it, and the next one is known
   pub record Between (ms : List Mention) (rows : List Row) (b count j past : ℕ) : Type 0 where
     pub p : ℕ
-    pub most : p ≤ N
+    pub most : p ≤ a .docs
     pub long : length ms ≡ 16
-    pub placed : Placed s (ordered μs) j j p ms
-    pub next : past ≡ nextAt (drop j (ordered μs)) p
-    pub reached : Reached mode μs k budget p count rows
-    pub barred : kth k rows ≡ b
-    pub rank : j ≡ asideIn mode (ordered μs) b
+    pub placed : Placed s os j j p ms
+    pub next : past ≡ nextAt (drop j os) p
+    pub reached : Reached a p count rows
+    pub barred : kth (a .k) rows ≡ b
+    pub rank : j ≡ asideIn (a .mode) os b
 
   module _ (ms : List Mention) (rows : List Row) (b count j past : ℕ) (w : Between ms rows b count j past) where
     ranked-le : j ≤ q
-    ranked-le = omega (arith, w .rank, aside-in-le mode (ordered μs) b, ordered-length μs)
+    ranked-le = omega (arith, w .rank, aside-in-le (a .mode) os b, ordered-length (a .mentions))
 
-    means : meantOf s q ms ≡ ordered μs
-    means = placed-meant (w .placed) (ordered-length μs ∙ whole) (omega (arith, w .long))
+    means : meantOf s q ms ≡ os
+    means = placed-meant (w .placed) (ordered-length (a .mentions) ∙ whole) (omega (arith, w .long))
 
-    coming : NextDoc (indexOf s .docs) (omega (arith, docs)) (drop j (ordered μs)) (w .p) past (docOf (indexOf s .docs) past)
-    coming = next-doc (indexOf s .docs) (omega (arith, docs)) (drop j (ordered μs)) (placed-rises (w .placed) j) (w .p) past (omega (arith, w .most, docs)) (w .next)
+    coming : NextDoc (indexOf s .docs) (omega (arith, docs)) (drop j os) (w .p) past (docOf (indexOf s .docs) past)
+    coming = next-doc (indexOf s .docs) (omega (arith, docs)) (drop j os) (placed-rises (w .placed) j) (w .p) past (omega (arith, w .most, docs)) (w .next)
 
     -- at most 16 postings are scored at each document
     spare : count ≤ 16 * w .p
     unfolding costAt
     spare =
-        let most = spent-most (costAt mode μs k) q (λ d. omega (arith, cost-le mode μs (bar mode μs k d) d, whole)) (w .p) in
+        let most = spent-most (costAt a) q (λ d. omega (arith, cost-le a (bar a d) d, whole)) (w .p) in
         let up : w .p * q ≤ w .p * 16 = mul-le-mul (omega arith) few in
         omega (arith, w .reached .counted)
 
-    pub between-starts : (pre : List ℕ) → ((i : ℕ) → i ≤ q → getD pre i 0 ≡ P (ordered μs) i) → Starts s ms pre j q past count
+    pub between-starts : (pre : List ℕ) → ((i : ℕ) → i ≤ q → getD pre i 0 ≡ P os i) → Starts s ms pre j q past count
     between-starts pre sums =
         let D = docOf (indexOf s .docs) past in
         record {
           few = few;
           rank = ranked-le;
-          placed = rw means (placed-later s (ordered μs) j (w .p) D ms (w .placed) (coming .later) (omega (arith, coming .before, w .next)));
+          placed = rw means (placed-later s os j (w .p) D ms (w .placed) (coming .later) (omega (arith, coming .before, w .next)));
           next = rw means (coming .stays);
           sums = λ i h. rw means (sums i (omega (arith, ranked-le)));
           spare = omega (arith, spare, coming .later);
         }
 
     -- the run from p on is the run from the next document on
-    run-next : runFrom (visitAt (ordered μs) b j) b q budget (w .p) count (N - w .p) ≡ runBy s (ordered μs) b j q budget past count
+    run-next : runFrom (visitAt os b j) b q (a .budget) (w .p) count (a .docs - w .p) ≡ runBy s os b j q (a .budget) past count
     run-next =
         let D = docOf (indexOf s .docs) past in
-        let v = visitAt (ordered μs) b j in
-        let all : N - w .p ≡ (D - w .p) + (indexOf s .docs - D) = omega (arith, coming .later, coming .most, docs) in
+        let v = visitAt os b j in
+        let all : a .docs - w .p ≡ (D - w .p) + (indexOf s .docs - D) = omega (arith, coming .later, coming .most, docs) in
         let there : w .p + (D - w .p) ≡ D = omega (arith, coming .later) in
         let free : (e : ℕ) → w .p ≤ e → e < w .p + (D - w .p) → v e .count ≡ 0 =
-        λ e g h. ap (λ (t : Tally). t .count) (unvisited (ordered μs) b e j (next-none (indexOf s .docs) (omega (arith, docs)) (drop j (ordered μs)) (placed-rises (w .placed) j) (w .p) e g (omega (arith, coming .before, w .next)))) in
-        ap (runFrom v b q budget (w .p) count) all ∙ run-skips v b q budget (D - w .p) (w .p) count (indexOf s .docs - D) free ∙ ap (λ (d : ℕ). runFrom v b q budget d count (indexOf s .docs - D)) there
+        λ e g h.
+        let gone = next-none (indexOf s .docs) (omega (arith, docs)) (drop j os) (placed-rises (w .placed) j) (w .p) e g (omega (arith, coming .before, w .next)) in
+        ap (λ (t : Tally). t .count) (unvisited os b e j gone) in
+        ap (runFrom v b q (a .budget) (w .p) count) all
+        ∙ run-skips v b q (a .budget) (D - w .p) (w .p) count (indexOf s .docs - D) free
+        ∙ ap (λ (d : ℕ). runFrom v b q (a .budget) d count (indexOf s .docs - D)) there
 
     -- what the end of a walk says
-    pub between-ends : (r : Run) → r ≡ runBy s (meantOf s q ms) b j q budget past count → Ended mode μs k budget N rows r
+    pub between-ends : (r : Run) → r ≡ runBy s (meantOf s q ms) b j q (a .budget) past count → Ended a rows r
     between-ends r e =
-        let v = any-visits mode by μs fit k b budget in
-        let kept = run-keeps mode μs k budget N b (visitAt (ordered μs) b (asideIn mode (ordered μs) b)) v (N - w .p) (w .p) count rows (w .reached) (w .barred) (omega (arith, w .most)) in
-        let run : runFrom (visitAt (ordered μs) b (asideIn mode (ordered μs) b)) b (length μs) budget (w .p) count (N - w .p) ≡ r =
-        rw (← w .rank, whole) (run-next ∙ ap (λ (l : List sc.Mention). runBy s l b j q budget past count) (sym means) ∙ sym e) in
-        subst (Ended mode μs k budget N rows) run kept
+        let v = any-visits a by fit b in
+        let kept = run-keeps a b (visitAt os b (asideIn (a .mode) os b)) v (a .docs - w .p) (w .p) count rows (w .reached) (w .barred) (omega (arith, w .most)) in
+        let run : runFrom (visitAt os b (asideIn (a .mode) os b)) b (length (a .mentions)) (a .budget) (w .p) count (a .docs - w .p) ≡ r =
+        rw (← w .rank, whole) (run-next ∙ ap (λ (l : List sc.Mention). runBy s l b j q (a .budget) past count) (sym means) ∙ sym e) in
+        subst (Ended a rows) run kept
 
     -- the run that a walk tells ends no earlier than at p
-    pub no-earlier : (r : Run) → r ≡ runBy s (meantOf s q ms) b j q budget past count → w .p ≤ r .doc
+    pub no-earlier : (r : Run) → r ≡ runBy s (meantOf s q ms) b j q (a .budget) past count → w .p ≤ r .doc
     no-earlier r e =
         let D = docOf (indexOf s .docs) past in
         let v = visitAt (meantOf s q ms) b j in
-        let later = run-later v b q budget (indexOf s .docs - D) D count in
+        let later = run-later v b q (a .budget) (indexOf s .docs - D) D count in
         omega (arith, coming .later, ap (λ (x : Run). x .doc) e)
 
     -- the bar has not fallen when a document enters
-    pub bar-rises : (d count′ : ℕ) (rows′ : List Row) → w .p ≤ d → Reached mode μs k budget (suc d) count′ rows′ → b ≤ kth k rows′
+    pub bar-rises : (d count′ : ℕ) (rows′ : List Row) → w .p ≤ d → Reached a (suc d) count′ rows′ → b ≤ kth (a .k) rows′
     bar-rises d count′ rows′ h r =
-        let then = ap (kth k) (w .reached .ranks) ∙ bar-table mode μs k (w .p) in
-        let now = ap (kth k) (r .ranks) ∙ bar-table mode μs k (suc d) in
-        omega (arith, w .barred, bar-grows mode μs k (w .p) (suc d) (omega arith))
+        let then = ap (kth (a .k)) (w .reached .ranks) ∙ bar-table a (w .p) in
+        let now = ap (kth (a .k)) (r .ranks) ∙ bar-table a (suc d) in
+        omega (arith, w .barred, bar-grows a (w .p) (suc d) (omega arith))
 
     -- a document has entered: the mentions have gone past it, and those up to the new rank are set aside
-    pub between-enters : (r : Run) → r ≡ runBy s (meantOf s q ms) b j q budget past count → (d count′ : ℕ) → r .doc ≡ d → (rows′ : List Row) → d < N → Reached mode μs k budget (suc d) count′ rows′ →
-        (ms′ : List Mention) → length ms′ ≡ 16 → Placed s (meantOf s q ms) j (length (meantOf s q ms)) d ms′ → (j′ past′ : ℕ) → j′ ≡ asideIn mode (ordered μs) (kth k rows′) → past′ ≡ nextAt (drop j′ (ordered μs)) (suc d) → Between ms′ rows′ (kth k rows′) count′ j′ past′
+    pub between-enters : (r : Run) → r ≡ runBy s (meantOf s q ms) b j q (a .budget) past count →
+        (d count′ : ℕ) → r .doc ≡ d → (rows′ : List Row) → d < a .docs → Reached a (suc d) count′ rows′ →
+        (ms′ : List Mention) → length ms′ ≡ 16 → Placed s (meantOf s q ms) j (length (meantOf s q ms)) d ms′ →
+        (j′ past′ : ℕ) → j′ ≡ asideIn (a .mode) os (kth (a .k) rows′) → past′ ≡ nextAt (drop j′ os) (suc d) → Between ms′ rows′ (kth (a .k) rows′) count′ j′ past′
     between-enters r e d count′ at rows′ below reached ms′ long pl j′ past′ rank next =
         let up = bar-rises d count′ rows′ (omega (arith, no-earlier r e)) reached in
-        let grows = aside-in-up mode (ordered μs) b (kth k rows′) up in
-        let pl′ : Placed s (ordered μs) j (length (ordered μs)) d ms′ = rw means at pl in
+        let grows = aside-in-up (a .mode) os b (kth (a .k) rows′) up in
+        let pl′ : Placed s os j (length os) d ms′ = rw means at pl in
         record {
           p = suc d;
           most = below;
@@ -152,7 +164,9 @@ module _ (s : List ℕ) (mode : Mode) (by : BySome mode) (μs : List sc.Mention)
           placed =
               record {
                 means = pl′ .means;
-                aside = λ x h. by-order x j (λ l. let a = pl′ .aside x l in (a .0, omega (arith, a .1), a .2)) (λ g. (suc d, omega arith, pl′ .gone x g (omega (arith, aside-in-le mode (ordered μs) (kth k rows′)))));
+                aside = λ x h.
+                    by-order x j (λ l. let y = pl′ .aside x l in (y .0, omega (arith, y .1), y .2))
+                    (λ g. (suc d, omega arith, pl′ .gone x g (omega (arith, aside-in-le (a .mode) os (kth (a .k) rows′)))));
                 gone = λ x g h. absurd (omega arith);
                 here = λ x g h. pl′ .gone x (omega (arith, w .rank)) h;
               };

@@ -3,6 +3,6 @@ pub mod AnyLaws
 pub mod Gather
 pub mod GatherLaws
 pub mod WriteLaws
-pub mod Asked
-pub mod AskedLaws
+pub mod Posed
+pub mod PosedLaws
 pub mod OneLaws

@@ -7,12 +7,13 @@ use lib.ListN.{length, getD}
 use Rattle.meaning.specs.declared.Mode.{Mode}
 use Rattle.meaning.specs.declared.Mode.the-variants.{Plain, Pruned}
 use Rattle.meaning.specs.Image.{indexOf}
-use Rattle.meaning.specs.Score as sc
+use Rattle.meaning.specs.Asked.{Asked}
 use Rattle.runs.specs.Found as runs
 use Rattle.ranking.specs.Rows.{rowsOf}
 use Rattle.mentions.specs.declared.Mention.{Mention}
 use Rattle.mentions.specs.Mentions.{none}
 use Rattle.visit.specs.Stand.{Stands}
+use Rattle.visit.specs.Walk.{meantOf}
 use Rattle.search.specs.declared.Found.{Found}
 
 -- the first q of the array stand at their lists' first postings; "k (1 to 64)", "the number of terms q (1 to 16)", N documents
@@ -30,8 +31,12 @@ abbrev pub modeFor : Bool → Mode
 modeFor true = Pruned
 modeFor false = Plain
 
+-- what is asked of the first q mentions of the array, in a mode
+abbrev pub askedOf : List ℕ → Mode → List Mention → ℕ → ℕ → ℕ → ℕ → Asked
+askedOf s mode ms q k budget docs = record { mode = mode; mentions = meantOf s q ms; k = k; budget = budget; docs = docs }
+
 -- the place, the postings scored and the rows are those of the mode's written rule
-pub record FoundBy (mode : Mode) (ms : List sc.Mention) (k budget N : ℕ) (r : Found) : Type 0 where
-  pub found : runs.Found mode ms k budget N (r .place) (r .scored) (rowsOf (r .table))
-  pub within : r .table .len ≤ k
+pub record FoundBy (a : Asked) (r : Found) : Type 0 where
+  pub found : runs.Found a (r .place) (r .scored) (rowsOf (r .table))
+  pub within : r .table .len ≤ a .k
   pub size : r .table .len ≡ length (rowsOf (r .table))

@@ -3,8 +3,7 @@
 use mentions::Mention;
 use runs::Turn;
 ghost use Rattle.meaning.specs.declared.Mode.the-variants.{All};
-ghost use Rattle.visit.specs.Walk.{meantOf};
-ghost use Rattle.search.specs.Serve.{Served, FoundBy};
+ghost use Rattle.search.specs.Serve.{Served, askedOf, FoundBy};
 
 // A query in mode 2.
 pub fn all_term(
@@ -16,7 +15,7 @@ pub fn all_term(
     docs: u32,
 ) -> super::Found
     requires { ⌜ Served (now image) ms q k docs ⌝ }
-    ensures { λ r. ⌜ FoundBy All (meantOf (now (image .entry)) q ms) k budget docs r ⌝ }
+    ensures { λ r. ⌜ FoundBy (askedOf (now (image .entry)) All ms q k budget docs) r ⌝ }
 {
     let mut os = meet::lead(ms, q);
     let mut table = ranking::empty();

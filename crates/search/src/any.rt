@@ -1,8 +1,7 @@
 // Modes 0 and 1: a document matches if some list holds it. The walk hands the mentions back at each document that enters the table.
 use mentions::Mention;
 use runs::Turn;
-ghost use Rattle.visit.specs.Walk.{meantOf};
-ghost use Rattle.search.specs.Serve.{Served, FoundBy, modeFor};
+ghost use Rattle.search.specs.Serve.{Served, askedOf, FoundBy, modeFor};
 
 // A query in mode 1, or in mode 0, in which no mention is ever set aside.
 pub fn any_term(
@@ -15,7 +14,7 @@ pub fn any_term(
     pruned: bool,
 ) -> super::Found
     requires { ⌜ Served (now image) ms q k docs ⌝ }
-    ensures { λ r. ⌜ FoundBy (modeFor pruned) (meantOf (now (image .entry)) q ms) k budget docs r ⌝ }
+    ensures { λ r. ⌜ FoundBy (askedOf (now (image .entry)) (modeFor pruned) ms q k budget docs) r ⌝ }
 {
     let mut os = mentions::order(ms, q);
     let pre = mentions::prefix(os, q);

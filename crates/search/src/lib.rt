@@ -13,7 +13,7 @@ ghost use lib.ListN.{length};
 ghost use Rattle.meaning.specs.Image.{indexOf};
 ghost use Rattle.meaning.specs.Answer.{answer};
 ghost use Rattle.sheet.specs.Record.{recordOf};
-ghost use Rattle.search.specs.Asked.{Asked};
+ghost use Rattle.search.specs.Posed.{Posed};
 
 // What a query's walk has found when it ends: the table, the place, and the postings scored.
 pub struct Found {
@@ -24,7 +24,7 @@ pub struct Found {
 
 // One query of an accepted sheet over an accepted image, into its own stretch of the answer row.
 pub fn answer_query(image: &[u8], sheet: &[u32], query: Record, docs: u32, out: &mut [u32])
-    requires { ⌜ Asked (now image) (now sheet) query docs × (length (now out) ≡ 3 + 2 * query .k) ⌝ }
+    requires { ⌜ Posed (now image) (now sheet) query docs × (length (now out) ≡ 3 + 2 * query .k) ⌝ }
     ensures { λ _. ⌜ now (out .exit) ≡ answer (indexOf (now (image .entry))) (recordOf (now (sheet .entry)) query) ⌝ }
 {
     let q = query.q;

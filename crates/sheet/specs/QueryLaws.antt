@@ -9,9 +9,9 @@ use lib.ListN.{length, getD, take}
 use lib.Dec.{eqb}
 use Rattle.meaning.specs.Judged.{Judged, good, bad, _>>=_}
 use Rattle.meaning.specs.JudgedLaws.{bind-good, need-good, good-same}
-use Rattle.meaning.specs.Sheet.{Pair, Query, within, queryAt, queriesAt, sheetOf}
+use Rattle.meaning.specs.Sheet.{Pair, Query, within, numbersOf, queryAt, queriesAt, sheetOf}
 use Rattle.meaning.specs.SheetFits.{Within, PairFits, PairsFit, QueriesFit}
-use Rattle.meaning.specs.SheetLaws.{numbersOf, query-good, pair-at, sheet-good, query-at}
+use Rattle.meaning.specs.SheetLaws.{query-good, pair-at, sheet-good, query-at}
 use Rattle.meaning.specs.Call.{needed}
 use Rattle.sheet.specs.declared.Record.{Record}
 use Rattle.sheet.specs.Verdict.{neededOf}

@@ -7,9 +7,9 @@ use lib.ListN.{length, getD, take}
 use lib.Seq.{take-all}
 use Rattle.lists.specs.Tests.{by-order}
 use Rattle.meaning.specs.Judged.{good}
-use Rattle.meaning.specs.Sheet.{Query, queryAt, sheetOf}
+use Rattle.meaning.specs.Sheet.{Query, numbersOf, queryAt, sheetOf}
 use Rattle.meaning.specs.SheetFits.{QueriesFit}
-use Rattle.meaning.specs.SheetLaws.{numbersOf, query-good, sheet-good}
+use Rattle.meaning.specs.SheetLaws.{query-good, sheet-good}
 use Rattle.sheet.specs.declared.Record.{Record}
 use Rattle.sheet.specs.Record.{Readable, IsRecord, queryFrom}
 use Rattle.sheet.specs.QueryLaws.{RecordFits, record-fits, record-terms, query-here}

@@ -3,9 +3,9 @@ use mathlib.Core.Path.{_≡_, refl}
 use Prim.Native.Nat.{_+_, _-_, _*_, _≤_}
 use native.Mathlib.Omega.{arith}
 use lib.ListN.{length, length-take, length-drop}
-use Rattle.search.specs.Asked.{Asked}
+use Rattle.search.specs.Posed.{Posed}
 use Rattle.finder.specs.Fill.{Fills}
-use Rattle.finder.specs.FillLaws.{Going, going-first, going-length, going-ends, going-readable, going-asked, going-room, going-next}
+use Rattle.finder.specs.FillLaws.{Going, going-first, going-length, going-ends, going-readable, going-posed, going-room, going-next}
 use borrow.Author.Needs.{needs}
 use Rattle.finder.proofs.fill.Statement.{statement}
 use Rattle.finder.proofs.fill.Tie as tie
@@ -18,10 +18,10 @@ abbrev μ-loop : tie.MeasureT-loop
 
 -- what is known of a record that was read, and of its stretch
 module _ (c : tie.After-read Inv-loop μ-loop) where
-  asked : let a = c .before .before .before .before .before .before .args in Asked (a .image .now) (a .sheet .now) (c .read .result) (a .docs)
-  asked =
+  posed : let a = c .before .before .before .before .before .before .args in Posed (a .image .now) (a .sheet .now) (c .read .result) (a .docs)
+  posed =
       let f = c .before .before .before .before .before .before .pre in
-      going-asked f (c .before .before .loop .inv f) (c .before .loop-test .taken) (c .read .result) (c .read .ensures)
+      going-posed f (c .before .before .loop .inv f) (c .before .loop-test .taken) (c .read .result) (c .read .ensures)
 
   room : c .before .before .loop .start + (3 + 2 * c .read .result .k) ≤ length (c .before .before .before .before .before .before .args .row .now)
   room =
@@ -66,16 +66,16 @@ part-answer-query-end c = omega (arith, room (c .before), kept (c .before .befor
 answer-query-requires : tie.Need-answer-query-requires Inv-loop μ-loop
 answer-query-requires c κs =
     let long = kept (c .before .before .before .before) in
-    (asked (c .before .before), simp (length-take, length-drop) (omega (arith, room (c .before .before), long)))
+    (posed (c .before .before), simp (length-take, length-drop) (omega (arith, room (c .before .before), long)))
 
 mul-at : tie.Need-mul-at Inv-loop μ-loop
 mul-at c =
-    let r = asked (c .before .before .before .before .before .before) .fits in
+    let r = posed (c .before .before .before .before .before .before) .fits in
     omega (arith, r .all, r .terms)
 
 add-at : tie.Need-add-at Inv-loop μ-loop
 add-at c =
-    let r = asked (c .before .before .before .before .before .before .before) .fits in
+    let r = posed (c .before .before .before .before .before .before .before) .fits in
     omega (arith, r .all, r .terms)
 
 loop-less : tie.Need-loop-less Inv-loop μ-loop

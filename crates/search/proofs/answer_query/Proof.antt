@@ -6,12 +6,11 @@ use Prim.Native.Nat.{ℕ}
 use native.Mathlib.Omega.{arith}
 use borrow.Author.Needs.{needs}
 use Rattle.meaning.specs.declared.Mode.{Mode}
-use Rattle.meaning.specs.Score as sc
-use Rattle.visit.specs.Walk.{meantOf}
+use Rattle.meaning.specs.Asked.{Asked, withMode}
 use Rattle.search.specs.declared.Found.{Found}
-use Rattle.search.specs.Serve.{Served, FoundBy}
+use Rattle.search.specs.Serve.{Served, askedOf, FoundBy}
 use Rattle.search.specs.OneLaws.{one-found}
-use Rattle.search.specs.AskedLaws.{asked-pairs, asked-served, asked-answer}
+use Rattle.search.specs.PosedLaws.{posed-pairs, posed-served, posed-answer}
 use Rattle.search.proofs.AnyLoop.{served-length}
 use Rattle.search.proofs.answer_query.Statement.{statement}
 use Rattle.search.proofs.answer_query.Tie as tie
@@ -22,23 +21,26 @@ served : (c : tie.After-gather) → let a = c .before .before .before .before .a
 served c =
     let x = c .before .before .before .before in
     let a = x .args in
-    asked-served (a .image .now) (a .sheet .now) (a .query) (a .docs) (x .pre .0) (c .gather .result) (c .gather .ensures)
+    posed-served (a .image .now) (a .sheet .now) (a .query) (a .docs) (x .pre .0) (c .gather .result) (c .gather .ensures)
 
 -- and what it has found is by the query's mode, whichever that is
 found-same :
-    {mode mode′ : Mode} {ms : List sc.Mention} {k budget N : ℕ} {f f′ : Found} → mode ≡ mode′ → f ≡ f′ →
-    FoundBy mode′ ms k budget N f′ → FoundBy mode ms k budget N f
-found-same m e by = rw (m, e) by
+    {a : Asked} {mode : Mode} {f f′ : Found} → a .mode ≡ mode → f ≡ f′ → FoundBy (withMode a mode) f′ → FoundBy a f
+found-same m e by = rw (← m, ← e) at by
 
 found-by : (c : tie.At-match-came) → let a = c .before .before .before .before .before .args in let r = a .query in
-    FoundBy (r .mode) (meantOf (a .image .now) (r .q) (c .before .gather .result)) (r .k) (r .budget) (a .docs) (c .match .found)
+    FoundBy (askedOf (a .image .now) (r .mode) (c .before .gather .result) (r .q) (r .k) (r .budget) (a .docs)) (c .match .found)
 found-by c =
+    let a = c .before .before .before .before .before .args in
+    let r = a .query in
+    let asks = askedOf (a .image .now) (r .mode) (c .before .gather .result) (r .q) (r .k) (r .budget) (a .docs) in
+    let few = served-length (served (c .before)) (c .before .gather .ensures .size) in
     ⊎-elim
     (λ w. found-same (w .1 .given .1) (w .3) (w .2 .ensures))
     (⊎-elim
     (λ w. found-same (w .1 .given .1) (w .3) (w .2 .ensures))
     (⊎-elim
-    (λ w. found-same (w .1 .given .1) (w .4) (one-found _ (omega (arith, served-length (served (c .before)) (c .before .gather .ensures .size), w .2 .taken)) (w .3 .ensures)))
+    (λ w. found-same (w .1 .given .1) (w .4) (one-found asks (omega (arith, few, w .2 .taken)) (w .3 .ensures)))
     (λ w. found-same (w .1 .given .1) (w .4) (w .3 .ensures))))
     (c .match .came)
 
@@ -46,7 +48,7 @@ gather-requires : tie.Need-gather-requires
 gather-requires c κs =
     let x = c .before .before .before in
     let a = x .args in
-    (x .pre .0 .image, asked-pairs (a .image .now) (a .sheet .now) (a .query) (a .docs) (x .pre .0))
+    (x .pre .0 .image, posed-pairs (a .image .now) (a .sheet .now) (a .query) (a .docs) (x .pre .0))
 
 enum-told : tie.Need-enum-told
 enum-told c = search needs
@@ -84,7 +86,7 @@ returns c =
     let x = m .before .before .before .before .before in
     let a = x .args in
     c .before .before .write .ensures
-    ∙ asked-answer (a .image .now) (a .sheet .now) (a .query) (a .docs) (x .pre .0) (g .result) (g .ensures) (m .match .found) (found-by m)
+    ∙ posed-answer (a .image .now) (a .sheet .now) (a .query) (a .docs) (x .pre .0) (g .result) (g .ensures) (m .match .found) (found-by m)
 
 pub answer-query-spec : {M : Type 1} → statement M
 answer-query-spec =

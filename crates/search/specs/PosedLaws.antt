@@ -1,11 +1,10 @@
--- An asked query's pairs can be gathered, its walk is served with the mentions, and what the walk has found is the written answer.
+-- The pairs of a query that is posed can be gathered, its walk is served with the mentions, and what the walk has found is the written answer.
 use mathlib.Core.Path.{_≡_, ap, _∙_}
 use mathlib.Core.List.{List, _∷_}
 use Prim.Native.Nat.{ℕ}
-use Rattle.meaning.specs.declared.Mode.{Mode}
 use Rattle.meaning.specs.Image.{indexOf}
-use Rattle.meaning.specs.Score as sc
 use Rattle.meaning.specs.Score.{mentions}
+use Rattle.meaning.specs.Asked.{Asked, asked}
 use Rattle.meaning.specs.Answer.{filled, answerOf, answer}
 use Rattle.meaning.specs.IndexLaws.{index-is, docs-small}
 use Rattle.ranking.specs.Rows.{rowsOf}
@@ -13,27 +12,25 @@ use Rattle.runs.specs.Found.{found-answer}
 use Rattle.sheet.specs.declared.Record.{Record}
 use Rattle.sheet.specs.Record.{recordOf}
 use Rattle.mentions.specs.declared.Mention.{Mention}
-use Rattle.visit.specs.Walk.{meantOf}
 use Rattle.search.specs.declared.Found.{Found}
 use Rattle.search.specs.Gather.{Pairs, Gathered}
 use Rattle.search.specs.GatherLaws.{gathered-meant}
-use Rattle.search.specs.Serve.{Served, FoundBy}
-use Rattle.search.specs.Asked.{Asked}
+use Rattle.search.specs.Serve.{Served, askedOf, FoundBy}
+use Rattle.search.specs.Posed.{Posed}
 
 -- the numbers of a query's stretch
 abbrev pub writtenOf : ℕ → Found → List ℕ
 writtenOf k f = f .place ∷ f .table .len ∷ f .scored ∷ filled k (rowsOf (f .table))
 
 -- what is found by a mode's rule is its answer
-found-writes :
-    (mode : Mode) (ms : List sc.Mention) (k budget N : ℕ) (f : Found) → FoundBy mode ms k budget N f → writtenOf k f ≡ answerOf mode ms k budget N
-found-writes mode ms k budget N f by =
-    ap (λ (n : ℕ). f .place ∷ n ∷ f .scored ∷ filled k (rowsOf (f .table))) (by .size)
-    ∙ found-answer mode ms k budget N (f .place) (f .scored) (rowsOf (f .table)) (by .found)
+found-writes : (a : Asked) (f : Found) → FoundBy a f → writtenOf (a .k) f ≡ answerOf a
+found-writes a f by =
+    ap (λ (n : ℕ). f .place ∷ n ∷ f .scored ∷ filled (a .k) (rowsOf (f .table))) (by .size)
+    ∙ found-answer a (f .place) (f .scored) (rowsOf (f .table)) (by .found)
 
-module _ (s sheet : List ℕ) (r : Record) (docs : ℕ) (a : Asked s sheet r docs) where
-  pub asked-pairs : Pairs s sheet (r .pairs) (r .q)
-  asked-pairs =
+module _ (s sheet : List ℕ) (r : Record) (docs : ℕ) (a : Posed s sheet r docs) where
+  pub posed-pairs : Pairs s sheet (r .pairs) (r .q)
+  posed-pairs =
       let f = a .fits in
       record {
         few = f .terms .1;
@@ -44,8 +41,8 @@ module _ (s sheet : List ℕ) (r : Record) (docs : ℕ) (a : Asked s sheet r doc
       }
 
   module _ (ms : List Mention) (g : Gathered s sheet (r .pairs) (r .q) ms) where
-    pub asked-served : Served s ms (r .q) (r .k) docs
-    asked-served =
+    pub posed-served : Served s ms (r .q) (r .k) docs
+    posed-served =
         let f = a .fits in
         let same = index-is s (a .image .0) (a .image .1) in
         record {
@@ -58,8 +55,8 @@ module _ (s sheet : List ℕ) (r : Record) (docs : ℕ) (a : Asked s sheet r doc
           stands = λ x h. g .begins x h .stands;
         }
 
-    pub asked-answer : (f : Found) → FoundBy (r .mode) (meantOf s (r .q) ms) (r .k) (r .budget) docs f → writtenOf (r .k) f ≡ answer (indexOf s) (recordOf sheet r)
-    unfolding answer mentions
-    asked-answer f by =
-        found-writes (r .mode) (meantOf s (r .q) ms) (r .k) (r .budget) docs f by
+    pub posed-answer : (f : Found) → FoundBy (askedOf s (r .mode) ms (r .q) (r .k) (r .budget) docs) f → writtenOf (r .k) f ≡ answer (indexOf s) (recordOf sheet r)
+    unfolding answer asked mentions
+    posed-answer f by =
+        found-writes (askedOf s (r .mode) ms (r .q) (r .k) (r .budget) docs) f by
         ∙ rw (gathered-meant s sheet (r .pairs) (r .q) ms g (a .fits .terms .1), a .all)
