@@ -13,7 +13,7 @@ use Rattle.meaning.specs.BitsLaws.{bits-lt}
 use Rattle.meaning.specs.Judged.{Judged, good, bad, _>>=_, need}
 use Rattle.meaning.specs.JudgedLaws.{bind-good, need-good, good-same}
 use Rattle.meaning.specs.Layout.{Head, headAt, sizeOf}
-use Rattle.meaning.specs.Image.{Posting, nextOf, largestOf, postingsAt, blockAt}
+use Rattle.meaning.specs.Image.{Posting, blockOf, nextOf, largestOf, postingsAt, blockAt}
 use Rattle.image.specs.Answers.{keep, Kept, keptOf, Taken, takenOf}
 use Rattle.image.specs.KeepLaws.{keep-need}
 
@@ -63,12 +63,12 @@ module _ (s : List ℕ) (N t i next left : ℕ) where
   block-odd h e p odd = rw (le-leb (i + 44) (8 * length s) p, rw e at odd)
 
   ended : (h : Head) (m : Judged (List Posting)) → ((ps : List Posting) → m ≡ good ps → length ps ≡ h .count) →
-      keep (takenOf i next) (m >>= λ ps. need (eqb (h .last + 1) (nextOf ps next) && eqb (h .largest) (largestOf ps)) 7 t >>= λ _. good (record { postings = ps; stop = i + sizeOf h }))
+      keep (takenOf i next) (m >>= λ ps. need (eqb (h .last + 1) (nextOf ps next) && eqb (h .largest) (largestOf ps)) 7 t >>= λ _. good (blockOf h ps (i + sizeOf h)))
       ≡ (keep (keptOf next) m >>= closing t h)
   ended h (bad n p) count = refl
   ended h (good ps) count =
       let size : i + sizeOf h - i ≡ sizeOf h = omega arith in
-      keep-need (eqb (h .last + 1) (nextOf ps next) && eqb (h .largest) (largestOf ps)) 7 t (takenOf i next) (good (record { postings = ps; stop = i + sizeOf h })) _
+      keep-need (eqb (h .last + 1) (nextOf ps next) && eqb (h .largest) (largestOf ps)) 7 t (takenOf i next) (good (blockOf h ps (i + sizeOf h))) _
       (rw (size, count ps refl))
 
   -- a block that is there, by what k says of its postings

@@ -9,7 +9,7 @@ use lib.ListN.{length}
 use Rattle.meaning.specs.Judged.{Judged, good, bad, _>>=_, need}
 use Rattle.meaning.specs.JudgedLaws.{bind-good, need-good, good-same}
 use Rattle.meaning.specs.Layout.{Entry, entryAt}
-use Rattle.meaning.specs.Image.{Part, Terms, largestOf, blocksAt, entryFits, termsAt}
+use Rattle.meaning.specs.Image.{Part, Terms, listOf, largestOf, blocksAt, entryFits, termsAt}
 use Rattle.image.specs.Answers.{keep, Ended, endedOf, stopOf}
 use Rattle.image.specs.KeepLaws.{keep-then, keep-good}
 use Rattle.image.specs.ListLaws.{blocks-inside}
@@ -24,7 +24,7 @@ module _ (s : List ℕ) (N t due : ℕ) where
       keep stopOf
       (m >>= λ l. (need (eqb (e .largest) (largestOf (l .postings))) 7 t
       >>= λ _. (termsAt s N (suc t) (l .stop) n
-      >>= λ r. good (record { terms = record { postings = l .postings; largest = e .largest } ∷ r .terms; stop = r .stop }))))
+      >>= λ r. good (record { terms = listOf e l ∷ r .terms; stop = r .stop }))))
       ≡ ((keep endedOf m >>= finished t e) >>= λ stop. keep stopOf (termsAt s N (suc t) stop n))
   follow e (bad k p) n = refl
   follow e (good l) n = go (eqb (e .largest) (largestOf (l .postings)))
@@ -33,10 +33,10 @@ module _ (s : List ℕ) (N t due : ℕ) where
           keep stopOf
           (need b 7 t
           >>= λ _. (termsAt s N (suc t) (l .stop) n
-          >>= λ r. good (record { terms = record { postings = l .postings; largest = e .largest } ∷ r .terms; stop = r .stop })))
+          >>= λ r. good (record { terms = listOf e l ∷ r .terms; stop = r .stop })))
           ≡ ((need b 7 t >>= λ _. good (l .stop)) >>= λ stop. keep stopOf (termsAt s N (suc t) stop n))
       go false = refl
-      go true = keep-then (termsAt s N (suc t) (l .stop) n) (λ r. record { terms = record { postings = l .postings; largest = e .largest } ∷ r .terms; stop = r .stop }) stopOf
+      go true = keep-then (termsAt s N (suc t) (l .stop) n) (λ r. record { terms = listOf e l ∷ r .terms; stop = r .stop }) stopOf
 
   -- a term with entry e
   abbrev listWith : Entry → Judged ℕ
@@ -55,7 +55,7 @@ module _ (s : List ℕ) (N t due : ℕ) where
           >>= λ _. (blocksAt s N t (e .count) due 0 (e .count)
           >>= λ l. (need (eqb (e .largest) (largestOf (l .postings))) 7 t
           >>= λ _. (termsAt s N (suc t) (l .stop) n
-          >>= λ r. good (record { terms = record { postings = l .postings; largest = e .largest } ∷ r .terms; stop = r .stop })))))
+          >>= λ r. good (record { terms = listOf e l ∷ r .terms; stop = r .stop })))))
           ≡ ((need b 4 t >>= λ _. (keep endedOf (blocksAt s N t (e .count) due 0 (e .count)) >>= finished t e)) >>= λ stop. keep stopOf (termsAt s N (suc t) stop n))
       go false = refl
       go true = follow e (blocksAt s N t (e .count) due 0 (e .count)) n
@@ -104,7 +104,7 @@ terms-whole s N t due (suc n) r e =
     let z = need-good (eqb (f .largest) (largestOf (l .postings))) 7 t _ (y .2) in
     let v = bind-good (termsAt s N (suc t) (l .stop) n) _ (z .1) in
     let w = terms-whole s N (suc t) (l .stop) n (v .0) (v .1) in
-    let same : _≡_ {A = Terms} (record { terms = record { postings = l .postings; largest = f .largest } ∷ v .0 .terms; stop = v .0 .stop }) r = good-same (v .2) in
+    let same : _≡_ {A = Terms} (record { terms = listOf f l ∷ v .0 .terms; stop = v .0 .stop }) r = good-same (v .2) in
     rw (← same) (record { count = ap suc (w .count); inside = λ h. w .inside (blocks-inside s N t (f .count) due 0 (f .count) l h (y .1)) })
 
 pub stop-inside : (s : List ℕ) (N t due n stop : ℕ) → due ≤ 8 * length s → good stop ≡ keep stopOf (termsAt s N t due n) → stop ≤ 8 * length s

@@ -1,7 +1,7 @@
 -- Laws of a list's blocks: one block a turn, with what is kept of those before it.
 use mathlib.Core.Path.{_≡_, refl, sym, ap, _∙_}
 use mathlib.Core.Bool.{_&&_}
-use mathlib.Core.List.{List, [], _∷_, _++_}
+use mathlib.Core.List.{List, _++_}
 use Prim.Native.Nat.{ℕ, zero, suc, _+_, _-_, _*_, _≤_, _<_, max}
 use native.Mathlib.Omega.{arith}
 use lib.Dec.{ltb, leb, eqb}
@@ -12,8 +12,8 @@ use Rattle.meaning.specs.Bits.{bitsAt}
 use Rattle.meaning.specs.Judged.{Judged, good, bad, _>>=_}
 use Rattle.meaning.specs.JudgedLaws.{bind-good, need-good, good-same}
 use Rattle.meaning.specs.Layout.{headAt, sizeOf}
-use Rattle.meaning.specs.Image.{Posting, Part, nextOf, largestOf, postingsAt, blockAt, blocksAt}
-use Rattle.meaning.specs.ImageLaws.{blocks-fuel}
+use Rattle.meaning.specs.Image.{Posting, Part, blockOf, andThen, nextOf, largestOf, postingsAt, blockAt, blocksAt}
+use Rattle.meaning.specs.ImageLaws.{largest-append, blocks-fuel}
 use Rattle.image.specs.Answers.{keep, Taken, takenOf, Ended, endedOf}
 use Rattle.image.specs.KeepLaws.{keep-same, keep-then, keep-good}
 use Rattle.image.specs.BlockLaws.{postings-count}
@@ -21,11 +21,6 @@ use Rattle.image.specs.BlockLaws.{postings-count}
 -- what is kept where `top` is the largest impact before
 abbrev pub endedFrom : ℕ → Part → Ended
 endedFrom top b = record { stop = b .stop; largest = max top (largestOf (b .postings)) }
-
-largest-append : (a b : List Posting) → largestOf (a ++ b) ≡ max (largestOf a) (largestOf b)
-unfolding largestOf
-largest-append [] b = omega arith
-largest-append (p ∷ a) b = omega (arith, largest-append a b)
 
 -- good postings are below N
 postings-below : (s : List ℕ) (N t w i next n : ℕ) (ps : List Posting) → next ≤ N → postingsAt s N t w i next n ≡ good ps → nextOf ps next ≤ N
@@ -63,7 +58,7 @@ module _ (s : List ℕ) (N t i next left : ℕ) where
       let z = bind-good (postingsAt s N t (h .width) (i + 44) next (h .count)) _ (y .1) in
       let v = need-good (eqb (h .last + 1) (nextOf (z .0) next) && eqb (h .largest) (largestOf (z .0))) 7 t _ (z .2) in
       let fits = both-true (leb (h .width) 24 && leb (h .count) left) (leb stop (8 * length s)) (y .0) in
-      let same : _≡_ {A = Part} (record { postings = z .0; stop = stop }) b = good-same (v .1) in
+      let same : _≡_ {A = Part} (blockOf h (z .0) stop) b = good-same (v .1) in
       rw (← same)
       (record {
         few = leb-true (h .count) left (both-true (leb (h .width) 24) (leb (h .count) left) (fits .0) .1);
@@ -94,7 +89,7 @@ module _ (s : List ℕ) (N t i next left : ℕ) where
   after : (top : ℕ) (m : Judged Part) → ((b : Part) → m ≡ good b → (i ≤ b .stop) × (0 < length (b .postings))) →
       keep (endedFrom top)
       (m >>= λ b. (blocksAt s N t (left - 1) (b .stop) (nextOf (b .postings) next) (left - length (b .postings))
-      >>= λ r. good (record { postings = b .postings ++ r .postings; stop = r .stop })))
+      >>= λ r. good (andThen b r)))
       ≡ (keep (takenOf i next) m >>= λ k. keep (endedFrom (max top (k .largest))) (blocksAt s N t (left - k .postings) (i + k .bits) (k .next) (left - k .postings)))
   after top (bad n p) facts = refl
   after top (good b) facts =
@@ -103,7 +98,7 @@ module _ (s : List ℕ) (N t i next left : ℕ) where
       let l = left - length (b .postings) in
       let rest = blocksAt s N t l (b .stop) (nextOf (b .postings) next) l in
       rw (e, blocks-fuel s N t (left - 1) l (b .stop) (nextOf (b .postings) next) l (omega arith) (omega arith))
-      (keep-then rest (λ r. record { postings = b .postings ++ r .postings; stop = r .stop }) (endedFrom top)
+      (keep-then rest (andThen b) (endedFrom top)
       ∙ keep-same rest _ (endedFrom (max top (largestOf (b .postings))))
       (λ r. let m : max top (largestOf (b .postings ++ r .postings)) ≡ max (max top (largestOf (b .postings))) (largestOf (r .postings)) = omega (arith, largest-append (b .postings) (r .postings)) in rw m))
 
@@ -150,5 +145,5 @@ blocks-inside s N t (suc f) i next left b h e = go (λ i next left b h e. blocks
         let p = block-passed s N t i next left k (x .1) in
         let room = p .room in
         let stop = p .stop in
-        let same : _≡_ {A = Part} (record { postings = k .postings ++ y .0 .postings; stop = y .0 .stop }) b = good-same (y .2) in
+        let same : _≡_ {A = Part} (andThen k (y .0)) b = good-same (y .2) in
         rw (← same) (r (k .stop) (nextOf (k .postings) next) l (y .0) (omega arith) (y .1)))

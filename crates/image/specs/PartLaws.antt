@@ -12,7 +12,7 @@ use Rattle.meaning.specs.Bits.{bitsAt}
 use Rattle.meaning.specs.BitsLaws.{bits-drop}
 use Rattle.meaning.specs.Judged.{Judged, good, bad, _>>=_, need}
 use Rattle.meaning.specs.Layout.{Head, headAt, sizeOf}
-use Rattle.meaning.specs.Image.{Posting, Part, nextOf, largestOf, postingsAt, blockAt}
+use Rattle.meaning.specs.Image.{Posting, Part, blockOf, nextOf, largestOf, postingsAt, blockAt}
 use Rattle.bits.specs.Parts.{from, from-is}
 use Rattle.layout.specs.FieldsLaws.{head-drop}
 use Rattle.image.specs.Answers.{keep, takenOf}
@@ -43,17 +43,18 @@ postings-drop s k N t w i next (suc n) =
     )
 
 -- the bits that a block takes do not depend on where it starts
-taken-same : (a b : Bool) (m : Judged (List Posting)) (f : List Posting → Bool) (t i j next size : ℕ) →
-    keep (takenOf i next) (need a 5 t >>= λ _. (need b 5 t >>= λ _. (m >>= λ ps. (need (f ps) 7 t >>= λ _. good (record { postings = ps; stop = i + size })))))
-    ≡ keep (takenOf j next) (need a 5 t >>= λ _. (need b 5 t >>= λ _. (m >>= λ ps. (need (f ps) 7 t >>= λ _. good (record { postings = ps; stop = j + size })))))
-taken-same false b m f t i j next size = refl
-taken-same true false m f t i j next size = refl
-taken-same true true (bad n p) f t i j next size = refl
-taken-same true true (good ps) f t i j next size = go (f ps)
+taken-same : (a b : Bool) (m : Judged (List Posting)) (f : List Posting → Bool) (t i j next : ℕ) (h : Head) →
+    keep (takenOf i next) (need a 5 t >>= λ _. (need b 5 t >>= λ _. (m >>= λ ps. (need (f ps) 7 t >>= λ _. good (blockOf h ps (i + sizeOf h))))))
+    ≡ keep (takenOf j next) (need a 5 t >>= λ _. (need b 5 t >>= λ _. (m >>= λ ps. (need (f ps) 7 t >>= λ _. good (blockOf h ps (j + sizeOf h))))))
+taken-same false b m f t i j next h = refl
+taken-same true false m f t i j next h = refl
+taken-same true true (bad n p) f t i j next h = refl
+taken-same true true (good ps) f t i j next h = go (f ps)
   where
-    go : (c : Bool) → keep (takenOf i next) (need c 7 t >>= λ _. good (record { postings = ps; stop = i + size })) ≡ keep (takenOf j next) (need c 7 t >>= λ _. good (record { postings = ps; stop = j + size }))
+    go : (c : Bool) →
+        keep (takenOf i next) (need c 7 t >>= λ _. good (blockOf h ps (i + sizeOf h))) ≡ keep (takenOf j next) (need c 7 t >>= λ _. good (blockOf h ps (j + sizeOf h)))
     go false = refl
-    go true = let e : i + size - i ≡ j + size - j = omega arith in rw e
+    go true = let e : i + sizeOf h - i ≡ j + sizeOf h - j = omega arith in rw e
 
 -- the block at bit i with head h
 abbrev blockWith : List ℕ → ℕ → ℕ → ℕ → ℕ → ℕ → Head → Judged Part
@@ -62,14 +63,14 @@ blockWith s N t i next left h =
     >>= λ _. (need (leb (h .width) 24 && leb (h .count) left && leb (i + sizeOf h) (8 * length s)) 5 t
     >>= λ _. (postingsAt s N t (h .width) (i + 44) next (h .count)
     >>= λ ps. (need (eqb (h .last + 1) (nextOf ps next) && eqb (h .largest) (largestOf ps)) 7 t
-    >>= λ _. good (record { postings = ps; stop = i + sizeOf h }))))
+    >>= λ _. good (blockOf h ps (i + sizeOf h)))))
 
 with-drop : (s : List ℕ) (k N t i next left : ℕ) (h : Head) → k ≤ length s →
     keep (takenOf i next) (blockWith (drop k s) N t i next left h) ≡ keep (takenOf (8 * k + i) next) (blockWith s N t (8 * k + i) next left h)
 with-drop s k N t i next left h p =
     rw (room-drop s k i 44 p, room-drop s k i (sizeOf h) p, postings-drop s k N t (h .width) (i + 44) next (h .count), ← add-assoc (8 * k) i 44)
     (taken-same (leb (8 * k + i + 44) (8 * length s)) (leb (h .width) 24 && leb (h .count) left && leb (8 * k + i + sizeOf h) (8 * length s))
-    (postingsAt s N t (h .width) (8 * k + i + 44) next (h .count)) (λ ps. eqb (h .last + 1) (nextOf ps next) && eqb (h .largest) (largestOf ps)) t i (8 * k + i) next (sizeOf h))
+    (postingsAt s N t (h .width) (8 * k + i + 44) next (h .count)) (λ ps. eqb (h .last + 1) (nextOf ps next) && eqb (h .largest) (largestOf ps)) t i (8 * k + i) next h)
 
 block-drop : (s : List ℕ) (k N t i next left : ℕ) → k ≤ length s →
     keep (takenOf i next) (blockAt (drop k s) N t i next left) ≡ keep (takenOf (8 * k + i) next) (blockAt s N t (8 * k + i) next left)

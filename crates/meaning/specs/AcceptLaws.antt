@@ -13,7 +13,7 @@ use Rattle.meaning.specs.Judged.{good}
 use Rattle.meaning.specs.JudgedLaws.{bind-good, need-good, good-same}
 use Rattle.meaning.specs.Bits.{bitsAt}
 use Rattle.meaning.specs.Layout.{headerOf, Entry, entryAt}
-use Rattle.meaning.specs.Image.{Term, Terms, Index, largestOf, blocksAt, entryFits, termsAt, imageOf}
+use Rattle.meaning.specs.Image.{Term, Terms, Index, listOf, largestOf, blocksAt, entryFits, termsAt, imageOf}
 use Rattle.meaning.specs.ImageFits.{EntryFits, joined, ListFits, TermsFit, ImageFits}
 use Rattle.meaning.specs.BlockLaws.{blocks-good, fit-blocks}
 
@@ -55,8 +55,8 @@ terms-good s N t due (suc n) r e =
     let c = need-good (eqb (e₀ .largest) (largestOf (l .postings))) 7 t _ (b .2) in
     let d = bind-good (termsAt s N (suc t) (l .stop) n) _ (c .1) in
     let g = blocks-good s N t (e₀ .count) due 0 (e₀ .count) l (omega arith) (b .1) in
-    let f : ListFits s N t due (l .stop) (record { postings = l .postings; largest = e₀ .largest }) =
-    record { entry = entry-good N due e₀ (a .0); blocks = g .0; fit = g .1; postings = g .2; named = refl; largest = eqb-true _ _ (c .0) } in
+    let f : ListFits s N t due (l .stop) (listOf e₀ l) =
+    record { entry = entry-good N due e₀ (a .0); blocks = g .0; fit = g .1; postings = g .2; heads = g .3; count = refl; named = refl; largest = eqb-true _ _ (c .0) } in
     let v = terms-good s N (suc t) (l .stop) n (d .0) (d .1) in
     rw (← good-same (d .2)) ((l .stop, f, v .0), ap suc (v .1))
 
@@ -68,7 +68,7 @@ fit-terms s N t due stop (x ∷ xs) f =
     let l = f .1 in
     let g = fit-blocks s N t (e .count) due 0 (e .count) (f .0) (l .blocks) (omega arith) (l .fit) in
     let top = eq-eqb (e .largest) (largestOf (joined (l .blocks))) (l .largest ∙ ap largestOf (l .postings)) in
-    rw (fit-entry N due e (l .entry), g, top, fit-terms s N (suc t) (f .0) stop xs (f .2), ← l .postings, ← l .named)
+    rw (fit-entry N due e (l .entry), g, top, fit-terms s N (suc t) (f .0) stop xs (f .2), ← l .postings, ← l .heads, ← l .count, ← l .named)
 
 pub image-good : (s : List ℕ) (ix : Index) → imageOf s ≡ good ix → ImageFits s ix
 unfolding imageOf
@@ -105,7 +105,17 @@ fit-image s ix f =
     let h = headerOf s in
     let few : 8 * length s - f .stop ≤ 7 = omega (arith, f .few) in
     let lists = fit-terms s (ix .docs) 0 (64 + 64 * length (ix .terms)) (f .stop) (ix .terms) (rw (f .terms) (f .lists)) in
-    rw (le-leb 8 (length s) (f .long), eq-eqb (h .version) 1 (f .version), eq-eqb (h .bytes) (length s) (f .bytes), le-leb (8 + 8 * h .terms) (length s) (f .directory), ← f .docs, ← f .terms, lists, le-leb (8 * length s - f .stop) 7 few, eq-eqb _ 0 (f .zeros))
+    rw (
+      le-leb 8 (length s) (f .long),
+      eq-eqb (h .version) 1 (f .version),
+      eq-eqb (h .bytes) (length s) (f .bytes),
+      le-leb (8 + 8 * h .terms) (length s) (f .directory),
+      ← f .docs,
+      ← f .terms,
+      lists,
+      le-leb (8 * length s - f .stop) 7 few,
+      eq-eqb _ 0 (f .zeros),
+    )
 
 -- "The first fault found is the one given, and none is given otherwise": an image is accepted exactly when no condition of rows 1 to 8 holds
 pub image-exactly : (s : List ℕ) (ix : Index) → (imageOf s ≡ good ix) ↔ ImageFits s ix

@@ -14,8 +14,20 @@ use Rattle.meaning.specs.Answer.{costAt, placeOf, filled, answerOf}
 -- one list: 1 with 4, 6 with 4, 8 with 9; another: 1 with 5, 6 with 5. Weights 1, so the ceilings are 9 and 5, and each document's score is 9
 unfoldable pub equals : List Mention
 equals =
-    record { weight = 1; postings = record { doc = 1; impact = 4 } ∷ record { doc = 6; impact = 4 } ∷ record { doc = 8; impact = 9 } ∷ []; largest = 9 } ∷
-    record { weight = 1; postings = record { doc = 1; impact = 5 } ∷ record { doc = 6; impact = 5 } ∷ []; largest = 5 } ∷
+    record {
+      weight = 1;
+      postings = record { doc = 1; impact = 4 } ∷ record { doc = 6; impact = 4 } ∷ record { doc = 8; impact = 9 } ∷ [];
+      count = 3;
+      largest = 9;
+      blocks = record { last = 8; largest = 9 } ∷ [];
+    } ∷
+    record {
+      weight = 1;
+      postings = record { doc = 1; impact = 5 } ∷ record { doc = 6; impact = 5 } ∷ [];
+      count = 2;
+      largest = 5;
+      blocks = record { last = 6; largest = 5 } ∷ [];
+    } ∷
     []
 
 -- asked in mode 1 for k rows, with an ample budget

@@ -97,5 +97,8 @@ promised c = record { said = c .said; row = c .row }
 
 -- "P1 to P12 are proved as one table under a single claim"
 pub examples : map called cases ≡ map promised cases
-unfolding called promised I I7 I8 AB C lent cases bitAt bitsAt largestOf nextOf postingsAt blockAt blocksAt termsAt imageOf modeOf pairsAt queryAt queriesAt sheetOf impactAt score holders matchesIn mentionOf mentions asked matches outranks insert ranked kth bar settle ordered P last aside lookUps visitAt costIn cost spent stops first place costAt placeOf filled answerOf answer answers needed judged ending call
+unfolding called promised I I7 I8 AB C lent cases
+    bitAt bitsAt largestOf nextOf postingsAt blockAt blocksAt termsAt imageOf modeOf pairsAt queryAt queriesAt sheetOf
+    impactAt score holders matchesIn mentionOf mentions asked matches outranks insert ranked kth bar
+    settle ordered P last aside lookUps visitAt costIn cost spent stops first place costAt placeOf filled answerOf answer answers needed judged ending call
 examples = refl

@@ -12,11 +12,11 @@ use Rattle.meaning.specs.Judged.{good}
 use Rattle.meaning.specs.Bits.{bitAt, bitsAt}
 use Rattle.meaning.specs.BitsLaws.{bits-zero, bit-past}
 use Rattle.meaning.specs.Layout.{headerOf, entryAt, headAt, sizeOf}
-use Rattle.meaning.specs.Image.{Posting, Part, Term, Index, largestOf, nextOf, imageOf}
-use Rattle.meaning.specs.ImageFits.{BlockFits, BlocksFit, joined, ListFits, TermsFit}
+use Rattle.meaning.specs.Image.{Posting, Part, Term, Index, noBlocks, largestOf, nextOf, imageOf}
+use Rattle.meaning.specs.ImageFits.{BlockFits, BlocksFit, joined, headsOf, ListFits, TermsFit}
 use Rattle.meaning.specs.AcceptLaws.{image-good}
 use Rattle.meaning.specs.TermLaws.{lists-due}
-use Rattle.meaning.specs.IndexLaws.{postingAt, listAt}
+use Rattle.meaning.specs.IndexLaws.{postingAt}
 use Rattle.meaning.specs.Score.{noTerm}
 
 -- the next document after some postings is one more than that of the last
@@ -38,11 +38,14 @@ pub record BlockTrue (s : List ℕ) (i : ℕ) (b : Part) : Type 0 where
   pub last : headAt s i .last ≡ postingAt (b .postings) (length (b .postings) - 1) .doc
   pub largest : headAt s i .largest ≡ largestOf (b .postings)
   pub size : b .stop ≡ i + sizeOf (headAt s i)
+  -- and what is kept of it is the last document and the largest impact
+  pub kept : b .blocks ≡ record { last = postingAt (b .postings) (length (b .postings) - 1) .doc; largest = largestOf (b .postings) } ∷ []
 
 block-true : (s : List ℕ) (N i next left : ℕ) (b : Part) → BlockFits s N i next left b → BlockTrue s i b
 block-true s N i next left b f =
     let some : 0 < length (b .postings) = omega (arith, f .count) in
-    record { some = some; count = f .count; last = last-of (b .postings) next (headAt s i .last) some (f .last); largest = f .largest; size = f .size }
+    let last = last-of (b .postings) next (headAt s i .last) some (f .last) in
+    record { some = some; count = f .count; last = last; largest = f .largest; size = f .size; kept = rw (← last, ← f .largest) (f .blocks) }
 
 -- "A block of n postings takes 44 + n(w + 8) bits, and the next begins at that bit": the bit of block k
 unfoldable pub startOf : ℕ → List Part → ℕ → ℕ
@@ -51,7 +54,7 @@ startOf i [] (suc k) = i
 startOf i (b ∷ bs) (suc k) = startOf (b .stop) bs k
 
 abbrev pub noPart : Part
-noPart = record { postings = []; stop = 0 }
+noPart = noBlocks 0
 
 blocks-true : (s : List ℕ) (N i next left stop : ℕ) (bs : List Part) → BlocksFit s N i next left stop bs → (k : ℕ) → k < length bs → BlockTrue s (startOf i bs k) (getD bs k noPart)
 unfolding startOf
@@ -75,23 +78,25 @@ terms-inside s N t due stop (x ∷ xs) h f =
     terms-inside s N (suc t) (f .0) stop xs (blocks-inside s N due 0 _ (f .0) (f .1 .blocks) h (f .1 .fit)) (f .2)
 
 -- the list of term t as a row of blocks from one bit to another
-pub record ListTrue (s : List ℕ) (from to : ℕ) (ps : List Posting) : Type 0 where
+pub record ListTrue (s : List ℕ) (from to : ℕ) (x : Term) : Type 0 where
   pub blocks : List Part
-  pub postings : ps ≡ joined blocks
+  pub postings : x .postings ≡ joined blocks
+  pub kept : x .blocks ≡ headsOf blocks
   pub heads : (k : ℕ) → k < length blocks → BlockTrue s (startOf from blocks k) (getD blocks k noPart)
   pub ends : startOf from blocks (length blocks) ≡ to
 
-list-true : (s : List ℕ) (N t from to : ℕ) (x : Term) → ListFits s N t from to x → ListTrue s from to (x .postings)
+list-true : (s : List ℕ) (N t from to : ℕ) (x : Term) → ListFits s N t from to x → ListTrue s from to x
 list-true s N t from to x f =
     let n = entryAt s t .count in
-    record { blocks = f .blocks; postings = f .postings; heads = blocks-true s N from 0 n to (f .blocks) (f .fit); ends = blocks-end s N from 0 n to (f .blocks) (f .fit) }
+    let heads = blocks-true s N from 0 n to (f .blocks) (f .fit) in
+    record { blocks = f .blocks; postings = f .postings; kept = f .heads; heads = heads; ends = blocks-end s N from 0 n to (f .blocks) (f .fit) }
 
 -- "Lists with postings, in directory order, the first starting at bit 64 + 64T and each other at the bit after the one before.
 -- Zero bits, at most 7, to the end of the last byte."
 pub record Filled (s : List ℕ) (ix : Index) : Type 0 where
   pub bit : ℕ → ℕ
   pub first : bit 0 ≡ 64 + 64 * length (ix .terms)
-  pub lists : (t : ℕ) → t < length (ix .terms) → ListTrue s (bit t) (bit (suc t)) (listAt ix t)
+  pub lists : (t : ℕ) → t < length (ix .terms) → ListTrue s (bit t) (bit (suc t)) (getD (ix .terms) t noTerm)
   pub inside : bit (length (ix .terms)) ≤ 8 * length s
   pub few : 8 * length s ≤ bit (length (ix .terms)) + 7
   pub zeros : (i : ℕ) → bit (length (ix .terms)) ≤ i → bitAt s i ≡ 0

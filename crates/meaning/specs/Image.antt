@@ -7,21 +7,29 @@ use lib.ListN.{length}
 use lib.Dec.{ltb, leb, eqb}
 use Rattle.meaning.specs.Bits.{bitsAt}
 use Rattle.meaning.specs.Judged.{Judged, good, _>>=_, need, readOr}
-use Rattle.meaning.specs.Layout.{headerOf, Entry, entryAt, headAt, sizeOf}
+use Rattle.meaning.specs.Layout.{headerOf, Entry, entryAt, Head, headAt, sizeOf}
 
 pub record Posting : Type 0 where
   pub doc : ℕ
   pub impact : ℕ
 
--- what a block or a list holds, and the bit after it
+-- what a block's head says of its postings: "largest impact of the block (8), document number of its last posting (24)"
+pub record Block : Type 0 where
+  pub last : ℕ
+  pub largest : ℕ
+
+-- what a block or a list holds, what the heads of its blocks say, in order, and the bit after it
 pub record Part : Type 0 where
   pub postings : List Posting
+  pub blocks : List Block
   pub stop : ℕ
 
--- a term's list, and its largest impact
+-- a term's list, and what the image says of it: "number of postings (24), largest impact of the list (8)", and its blocks
 pub record Term : Type 0 where
   pub postings : List Posting
+  pub count : ℕ
   pub largest : ℕ
+  pub blocks : List Block
 
 pub record Terms : Type 0 where
   pub terms : List Term
@@ -36,6 +44,11 @@ pub record Index : Type 0 where
 unfoldable pub largestOf : List Posting → ℕ
 largestOf [] = 0
 largestOf (p ∷ ps) = max (p .impact) (largestOf ps)
+
+-- the largest impact of the first block whose last document is at least d, 0 where there is none
+unfoldable pub largestFrom : List Block → ℕ → ℕ
+largestFrom [] d = 0
+largestFrom (b ∷ bs) d = cond (leb d (b .last)) (b .largest) (largestFrom bs d)
 
 -- one more than the last document, or `next` where there is none
 unfoldable pub nextOf : List Posting → ℕ → ℕ
@@ -53,6 +66,19 @@ postingsAt s N t w i next (suc n) = do
   ps ← postingsAt s N t w (i + w + 8) (suc d) n
   good (record { doc = d; impact = a } ∷ ps)
 
+-- no blocks, at bit i; a block with this head and these postings; a block and those after it; a list of blocks as its entry has it
+abbrev pub noBlocks : ℕ → Part
+noBlocks i = record { postings = []; blocks = []; stop = i }
+
+abbrev pub blockOf : Head → List Posting → ℕ → Part
+blockOf h ps stop = record { postings = ps; blocks = record { last = h .last; largest = h .largest } ∷ []; stop = stop }
+
+abbrev pub andThen : Part → Part → Part
+andThen b r = record { postings = b .postings ++ r .postings; blocks = b .blocks ++ r .blocks; stop = r .stop }
+
+abbrev pub listOf : Entry → Part → Term
+listOf e l = record { postings = l .postings; count = e .count; largest = e .largest; blocks = l .blocks }
+
 -- the block at bit i, in a list that has `left` postings left
 unfoldable pub blockAt : List ℕ → ℕ → ℕ → ℕ → ℕ → ℕ → Judged Part
 blockAt s N t i next left = do
@@ -62,15 +88,15 @@ blockAt s N t i next left = do
   _ ← need (leb (h .width) 24 && leb (h .count) left && leb stop (8 * length s)) 5 t
   ps ← postingsAt s N t (h .width) (i + 44) next (h .count)
   _ ← need (eqb (h .last + 1) (nextOf ps next) && eqb (h .largest) (largestOf ps)) 7 t
-  good (record { postings = ps; stop = stop })
+  good (blockOf h ps stop)
 
 -- "A list is a row of blocks": those of `left` postings from bit i on. A block has a posting at least, so `left` is fuel enough
 unfoldable pub blocksAt : List ℕ → ℕ → ℕ → ℕ → ℕ → ℕ → ℕ → Judged Part
-blocksAt s N t zero i next left = good (record { postings = []; stop = i })
-blocksAt s N t (suc fuel) i next left = cond (eqb left 0) (good (record { postings = []; stop = i })) do
+blocksAt s N t zero i next left = good (noBlocks i)
+blocksAt s N t (suc fuel) i next left = cond (eqb left 0) (good (noBlocks i)) do
   b ← blockAt s N t i next left
   r ← blocksAt s N t fuel (b .stop) (nextOf (b .postings) next) (left - length (b .postings))
-  good (record { postings = b .postings ++ r .postings; stop = r .stop })
+  good (andThen b r)
 
 -- "postings 0 with another field not 0; postings above N; list not at its due bit"
 abbrev pub entryFits : ℕ → ℕ → Entry → Bool
@@ -85,7 +111,7 @@ termsAt s N t due (suc n) = do
   l ← blocksAt s N t (e .count) due 0 (e .count)
   _ ← need (eqb (e .largest) (largestOf (l .postings))) 7 t
   r ← termsAt s N (suc t) (l .stop) n
-  good (record { terms = record { postings = l .postings; largest = e .largest } ∷ r .terms; stop = r .stop })
+  good (record { terms = listOf e l ∷ r .terms; stop = r .stop })
 
 unfoldable pub imageOf : List ℕ → Judged Index
 imageOf s = do

@@ -5,7 +5,7 @@ use Prim.Native.Nat.{ℕ, suc, _+_, _*_, _-_, _≤_, _<_}
 use lib.ListN.{length}
 use Rattle.meaning.specs.Bits.{bitsAt}
 use Rattle.meaning.specs.Layout.{headerOf, Entry, entryAt, headAt, sizeOf}
-use Rattle.meaning.specs.Image.{Posting, Part, Term, Index, largestOf, nextOf}
+use Rattle.meaning.specs.Image.{Posting, Block, Part, Term, Index, largestOf, nextOf}
 
 -- the posting at bit i with a gap of w bits; `next` is the previous document of the list plus 1
 pub record PostingFits (s : List ℕ) (N w i next : ℕ) (p : Posting) : Type 0 where
@@ -35,6 +35,8 @@ pub record BlockFits (s : List ℕ) (N i next left : ℕ) (b : Part) : Type 0 wh
   -- 7: "a block's last document or largest impact .. is not the true one"
   pub last : headAt s i .last + 1 ≡ nextOf (b .postings) next
   pub largest : headAt s i .largest ≡ largestOf (b .postings)
+  -- and these two are what is kept of its head
+  pub blocks : b .blocks ≡ record { last = headAt s i .last; largest = headAt s i .largest } ∷ []
 
 -- "A list is a row of blocks": each begins at the bit after the one before, and goes on from its last document
 abbrev pub BlocksFit : List ℕ → ℕ → ℕ → ℕ → ℕ → ℕ → List Part → Type 0
@@ -42,10 +44,14 @@ BlocksFit s N i next left stop [] = (left ≡ 0) × (i ≡ stop)
 BlocksFit s N i next left stop (b ∷ bs) =
     BlockFits s N i next left b × BlocksFit s N (b .stop) (nextOf (b .postings) next) (left - length (b .postings)) stop bs
 
--- the postings of a row of blocks
+-- the postings of a row of blocks, and what is kept of their heads
 unfoldable pub joined : List Part → List Posting
 joined [] = []
 joined (b ∷ bs) = b .postings ++ joined bs
+
+unfoldable pub headsOf : List Part → List Block
+headsOf [] = []
+headsOf (b ∷ bs) = b .blocks ++ headsOf bs
 
 -- 4: "postings 0 with another field not 0; postings above N; list not at its due bit"
 pub record EntryFits (N due : ℕ) (e : Entry) : Type 0 where
@@ -61,6 +67,8 @@ pub record ListFits (s : List ℕ) (N t due stop : ℕ) (x : Term) : Type 0 wher
   pub blocks : List Part
   pub fit : BlocksFit s N due 0 (entryAt s t .count) stop blocks
   pub postings : x .postings ≡ joined blocks
+  pub heads : x .blocks ≡ headsOf blocks
+  pub count : x .count ≡ entryAt s t .count
   -- 7: "a list's largest impact, is not the true one"
   pub named : x .largest ≡ entryAt s t .largest
   pub largest : entryAt s t .largest ≡ largestOf (x .postings)

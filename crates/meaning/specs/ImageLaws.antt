@@ -24,7 +24,7 @@ unfolding nextOf
 rising-append N next [] b r s = s
 rising-append N next (p ∷ ps) b r s = (r .0, r .1, r .2, rising-append N (suc (p .doc)) ps b (r .3) s)
 
-postings-rise : (s : List ℕ) (N w i next : ℕ) (ps : List Posting) → PostingsFit s N w i next ps → Rising N next ps
+pub postings-rise : (s : List ℕ) (N w i next : ℕ) (ps : List Posting) → PostingsFit s N w i next ps → Rising N next ps
 postings-rise s N w i next [] f = tt
 postings-rise s N w i next (p ∷ ps) f =
     let from = f .0 .doc in
@@ -51,6 +51,11 @@ impact-top (p ∷ ps) d = go (eqb (p .doc) d) (impact-top ps d)
     go true h = omega arith
     go false h = omega arith
 
+pub largest-append : (a b : List Posting) → largestOf (a ++ b) ≡ max (largestOf a) (largestOf b)
+unfolding largestOf
+largest-append [] b = omega arith
+largest-append (p ∷ a) b = omega (arith, largest-append a b)
+
 -- every list rises, and has its true largest impact
 abbrev pub Sound : ℕ → List Term → Type 0
 Sound N [] = Unit {0}
@@ -76,5 +81,8 @@ blocks-fuel s N t (suc f) (suc g) i next zero h k = no-fuel s N t (suc f) (suc g
 blocks-fuel s N t (suc f) (suc g) i next (suc left) h k =
     let some : 0 < suc left = omega arith in
     blocks-some s N t f i next (suc left) some ∙
-    (bind-same (blockAt s N t i next (suc left)) _ _ (λ b e. let n = block-good s N t i next (suc left) b e .count in rw (blocks-fuel s N t f g (b .stop) (nextOf (b .postings) next) (suc left - length (b .postings)) (omega arith) (omega arith))) ∙
+    (bind-same (blockAt s N t i next (suc left)) _ _
+    (λ b e.
+    let n = block-good s N t i next (suc left) b e .count in
+    rw (blocks-fuel s N t f g (b .stop) (nextOf (b .postings) next) (suc left - length (b .postings)) (omega arith) (omega arith))) ∙
     sym (blocks-some s N t g i next (suc left) some))

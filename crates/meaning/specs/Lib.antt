@@ -24,6 +24,7 @@ pub mod AcceptLaws
 pub mod ImageLaws
 pub mod TermLaws
 pub mod IndexLaws
+pub mod HeadLaws
 pub mod FillLaws
 pub mod SheetFits
 pub mod CallFits

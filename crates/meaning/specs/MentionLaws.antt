@@ -6,7 +6,7 @@ use native.Mathlib.Omega.{arith}
 use lib.ListN.{length, getD, length-map}
 use Rattle.lists.specs.Each.{Each, each-more}
 use Rattle.meaning.specs.Judged.{good}
-use Rattle.meaning.specs.Image.{Index, imageOf}
+use Rattle.meaning.specs.Image.{Index, largestFrom, imageOf}
 use Rattle.meaning.specs.Sheet.{Pair, Query}
 use Rattle.meaning.specs.Score.{Mention, noTerm, mentionOf, mentions, impactAt, score}
 use Rattle.meaning.specs.Asked.{asked}
@@ -14,16 +14,19 @@ use Rattle.meaning.specs.Answer.{answer}
 use Rattle.meaning.specs.SheetFits.{PairFits, PairsFit, QueryFits}
 use Rattle.meaning.specs.ImageLaws.{impact-top}
 use Rattle.meaning.specs.IndexLaws.{largest-true, docs-small}
+use Rattle.meaning.specs.HeadLaws.{count-true, blocks-true}
 use Rattle.meaning.specs.ScoreLaws.{Small, score-fits}
 use Rattle.meaning.specs.WalkLaws.{Fit}
 use Rattle.meaning.specs.WordLaws.{Word, answer-words}
 
--- "weight (1 to 255)", and a list whose largest impact is the true one
+-- "weight (1 to 255)", and a list of which the count, the largest impact and the blocks are the true ones
 pub record Sized (m : Mention) : Type 0 where
   pub some : 0 < m .weight
   pub most : m .weight ≤ 255
   pub top : (d : ℕ) → impactAt (m .postings) d ≤ m .largest
   pub small : m .largest ≤ 255
+  pub counted : m .count ≡ length (m .postings)
+  pub blocked : (d : ℕ) → (impactAt (m .postings) d ≤ largestFrom (m .blocks) d) × (largestFrom (m .blocks) d ≤ m .largest)
 
 module _ (s : List ℕ) (ix : Index) (e : imageOf s ≡ good ix) (sheet : List ℕ) where
   pair-sized : (at : ℕ) (p : Pair) → PairFits sheet (length (ix .terms)) at p → Sized (mentionOf ix p)
@@ -32,14 +35,21 @@ module _ (s : List ℕ) (ix : Index) (e : imageOf s ≡ good ix) (sheet : List �
       let t = getD (ix .terms) (p .term) noTerm in
       let top = largest-true s ix e (p .term) (f .below) in
       let weighs = f .weighs in
-      record { some = omega arith; most = omega arith; top = λ d. omega (arith, impact-top (t .postings) d); small = omega arith }
+      record {
+        some = omega arith;
+        most = omega arith;
+        top = λ d. omega (arith, impact-top (t .postings) d);
+        small = omega arith;
+        counted = count-true s ix e (p .term) (f .below);
+        blocked = blocks-true s ix e (p .term) (f .below);
+      }
 
   pairs-sized : (at : ℕ) (ps : List Pair) → PairsFit sheet (length (ix .terms)) at ps → Each Sized (map (mentionOf ix) ps)
   pairs-sized at [] f = tt
   pairs-sized at (p ∷ ps) f = (pair-sized at p (f .0), pairs-sized (at + 2) ps (f .1))
 
   module _ (at : ℕ) (q : Query) (f : QueryFits sheet (length (ix .terms)) at q) where
-    mentions-sized : Each Sized (mentions ix q)
+    pub mentions-sized : Each Sized (mentions ix q)
     unfolding mentions
     mentions-sized = pairs-sized (at + 4) (q .pairs) (f .pairs)
 

@@ -102,13 +102,15 @@ module _ (c : ℕ → ℕ) (q b : ℕ) where
   pub place-at : (N d : ℕ) → d < N → ((e : ℕ) → e < d → stops c q b e ≡ false) → stops c q b d ≡ true → place c q b N ≡ d
   unfolding place
   place-at N d h before here =
-      first-only (stops c q b) 0 N (first (stops c q b) 0 N) d (first-is (stops c q b) 0 N) (record { low = omega arith; high = omega arith; before = λ e g l. before e l; found = λ l. here })
+      first-only (stops c q b) 0 N (first (stops c q b) 0 N) d (first-is (stops c q b) 0 N)
+      (record { low = omega arith; high = omega arith; before = λ e g l. before e l; found = λ l. here })
 
   -- "If there is none, the place is N."
   pub place-end : (N : ℕ) → ((e : ℕ) → e < N → stops c q b e ≡ false) → place c q b N ≡ N
   unfolding place
   place-end N none =
-      first-only (stops c q b) 0 N (first (stops c q b) 0 N) N (first-is (stops c q b) 0 N) (record { low = omega arith; high = omega arith; before = λ e g l. none e l; found = λ l. absurd (omega arith) })
+      first-only (stops c q b) 0 N (first (stops c q b) 0 N) N (first-is (stops c q b) 0 N)
+      (record { low = omega arith; high = omega arith; before = λ e g l. none e l; found = λ l. absurd (omega arith) })
 
   module _ (fits : (d : ℕ) → c d ≤ q) where
     spent-below : (N d : ℕ) → d ≤ place c q b N → spent c d ≤ b

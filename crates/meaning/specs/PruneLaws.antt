@@ -26,7 +26,9 @@ pub above-next : (os : List Mention) (d i : ℕ) → i < length os → lookUp (g
 unfolding score holders
 above-next os d i h =
     let m = getD os i noMention in
-    rw (drop-cons os i noMention h) (tally-same (score (drop (suc i) os) d + gain m d) (gain m d + score (drop (suc i) os) d) (holders (drop (suc i) os) d + held m d) (held m d + holders (drop (suc i) os) d) (omega arith) (omega arith))
+    let sum = score (drop (suc i) os) d in
+    let count = holders (drop (suc i) os) d in
+    rw (drop-cons os i noMention h) (tally-same (sum + gain m d) (gain m d + sum) (count + held m d) (held m d + count) (omega arith) (omega arith))
 
 module _ (os : List Mention) (bar d : ℕ) where
   -- the three ways through the look-ups at rank i: at its end, a drop, and a mention looked up

@@ -6,22 +6,24 @@ use lib.ListN.{length, getD}
 use lib.Dec.{ltb, eqb}
 use Rattle.meaning.specs.declared.Mode.{Mode}
 use Rattle.meaning.specs.declared.Mode.the-variants.{Plain, Pruned, All}
-use Rattle.meaning.specs.Image.{Posting, Term, Index}
+use Rattle.meaning.specs.Image.{Posting, Block, Term, Index}
 use Rattle.meaning.specs.Sheet.{Pair, Query}
 
--- "each mention counts with its own weight and its own postings"
+-- "each mention counts with its own weight and its own postings", and what the image says of its list
 pub record Mention : Type 0 where
   pub weight : ℕ
   pub postings : List Posting
+  pub count : ℕ
   pub largest : ℕ
+  pub blocks : List Block
 
 abbrev pub noTerm : Term
-noTerm = record { postings = []; largest = 0 }
+noTerm = record { postings = []; count = 0; largest = 0; blocks = [] }
 
 unfoldable pub mentionOf : Index → Pair → Mention
 mentionOf ix p =
     let t = getD (ix .terms) (p .term) noTerm in
-    record { weight = p .weight; postings = t .postings; largest = t .largest }
+    record { weight = p .weight; postings = t .postings; count = t .count; largest = t .largest; blocks = t .blocks }
 
 unfoldable pub mentions : Index → Query → List Mention
 mentions ix q = map (mentionOf ix) (q .pairs)

@@ -70,7 +70,18 @@ query-good s T i at q e =
 fit-query : (s : List ℕ) (T i at : ℕ) (q : Query) → QueryFits s T at q → queryAt s T i at ≡ good q
 unfolding queryAt
 fit-query s T i at q f =
-    rw (le-leb (at + 4) (length s) (f .four), le-leb (getD s at 0) 2 (f .kind), ← f .mode, ← f .k, ← f .budget, ← f .count, true-within 1 64 (q .k) (f .rows), true-within 1 16 (length (q .pairs)) (f .terms), le-leb _ _ (f .all), fit-pairs s T i (at + 4) (q .pairs) (f .pairs))
+    rw (
+      le-leb (at + 4) (length s) (f .four),
+      le-leb (getD s at 0) 2 (f .kind),
+      ← f .mode,
+      ← f .k,
+      ← f .budget,
+      ← f .count,
+      true-within 1 64 (q .k) (f .rows),
+      true-within 1 16 (length (q .pairs)) (f .terms),
+      le-leb _ _ (f .all),
+      fit-pairs s T i (at + 4) (q .pairs) (f .pairs),
+    )
 
 queries-good : (s : List ℕ) (T i at n : ℕ) (qs : List Query) → queriesAt s T i at n ≡ good qs → QueriesFit s T at qs × (length qs ≡ n)
 unfolding queriesAt

@@ -7,7 +7,7 @@ use native.Mathlib.Omega.{arith}
 use lib.ListN.{length, getD}
 use Rattle.meaning.specs.Judged.{good}
 use Rattle.meaning.specs.Layout.{headerOf, entryAt}
-use Rattle.meaning.specs.Image.{Posting, Part, Term, Index, blocksAt, imageOf}
+use Rattle.meaning.specs.Image.{Posting, Part, Term, Index, noBlocks, blocksAt, imageOf}
 use Rattle.meaning.specs.ImageFits.{BlocksFit, joined, EntryFits, ListFits, TermsFit, ImageFits}
 use Rattle.meaning.specs.BlockLaws.{blocks-none, fit-blocks}
 use Rattle.meaning.specs.AcceptLaws.{image-good}
@@ -33,7 +33,7 @@ no-postings (p ∷ ps) e = absurd (omega arith)
 read-at : (s : List ℕ) (N t due stop at count : ℕ) (bs : List Part) → (0 < count → at ≡ due) → BlocksFit s N due 0 count stop bs →
     (l : Part) × (blocksAt s N t count at 0 count ≡ good l) × (l .postings ≡ joined bs)
 read-at s N t due stop at zero bs h f =
-    (record { postings = []; stop = at }, blocks-none s N t 0 at 0, sym (no-postings (joined bs) (blocks-rise s N due 0 0 stop bs f .1)))
+    (noBlocks at, blocks-none s N t 0 at 0, sym (no-postings (joined bs) (blocks-rise s N due 0 0 stop bs f .1)))
 read-at s N t due stop at (suc c) bs h f = rw (h (omega arith)) (_, fit-blocks s N t (suc c) due 0 (suc c) stop bs (omega arith) f, refl)
 
 one-term : (s : List ℕ) (N t due stop : ℕ) (x : Term) → ListFits s N t due stop x → TermAt s N t x

@@ -35,6 +35,10 @@ lent = 9 ∷ 9 ∷ 9 ∷ 9 ∷ 9 ∷ 9 ∷ 9 ∷ 9 ∷ 9 ∷ 9 ∷ 9 ∷ 9 ∷ 9
 -- scores: 3 has 5, 9 has 2 + 6, 10 has 7, 20 has 1, 21 has 4 + 12, 40 has 2.
 -- Mode 0 scores all 8 postings. Mode 1 has ceilings 7 and 12: it scores 1 at 3, 2 at 9 and, the bar being 5, 1 at 10; then the bar is 7,
 -- list 0 is set aside, 20 is not visited, and at 21 it stops, as 4 + 2 exceeds 5. Mode 2 scores 2 at 9 and stops at 21, as 2 + 2 exceeds 2
-pub worked : call D three lent ≡ record { said = good 21; row = 50 ∷ 3 ∷ 8 ∷ 21 ∷ 16 ∷ 9 ∷ 8 ∷ 10 ∷ 7 ∷ 21 ∷ 2 ∷ 4 ∷ 9 ∷ 8 ∷ 10 ∷ 7 ∷ 21 ∷ 1 ∷ 2 ∷ 9 ∷ 8 ∷ 9 ∷ [] }
-unfolding D three lent bitAt bitsAt largestOf nextOf postingsAt blockAt blocksAt termsAt imageOf modeOf pairsAt queryAt queriesAt sheetOf impactAt score holders matchesIn mentionOf mentions asked matches outranks insert ranked kth bar settle ordered P last aside lookUps visitAt costIn cost spent stops first place costAt placeOf filled answerOf answer answers needed judged ending call
+pub worked : call D three lent ≡
+    record { said = good 21; row = 50 ∷ 3 ∷ 8 ∷ 21 ∷ 16 ∷ 9 ∷ 8 ∷ 10 ∷ 7 ∷ 21 ∷ 2 ∷ 4 ∷ 9 ∷ 8 ∷ 10 ∷ 7 ∷ 21 ∷ 1 ∷ 2 ∷ 9 ∷ 8 ∷ 9 ∷ [] }
+unfolding D three lent
+    bitAt bitsAt largestOf nextOf postingsAt blockAt blocksAt termsAt imageOf modeOf pairsAt queryAt queriesAt sheetOf
+    impactAt score holders matchesIn mentionOf mentions asked matches outranks insert ranked kth bar
+    settle ordered P last aside lookUps visitAt costIn cost spent stops first place costAt placeOf filled answerOf answer answers needed judged ending call
 worked = refl

@@ -236,7 +236,8 @@ module _ {s : List ℕ} {q k budget N : ℕ} {pruned : Bool} {pre : List ℕ} {l
             record {
               here =
                   between-enters s a (some-by pruned) (g .fit) q (g .whole) (g .few) (g .docs) (g .small) os (rowsOf table) b count j past (w .here) (runOf (indexOf s .docs) r) e
-                  (r .past - 1) (r .count) (doc-is (ends Entered is .0)) (rowsOf next) entered-below (rw (there, rows) entered-reached) (r .ms) (l .long) (l .placed) rank past′ (ranks ∙ g .ranks (kth k (rowsOf next))) (rw there coming);
+                  (r .past - 1) (r .count) (doc-is (ends Entered is .0)) (rowsOf next) entered-below (rw (there, rows) entered-reached)
+                  (r .ms) (l .long) (l .placed) rank past′ (ranks ∙ g .ranks (kth k (rowsOf next))) (rw there coming);
               within = within;
               size = size;
             }
@@ -252,7 +253,8 @@ module _ {s : List ℕ} {q k budget N : ℕ} {pruned : Bool} {pre : List ℕ} {l
         pub entered-under : Under (r .past - 1) (rowsOf table)
         entered-under =
             let early = no-earlier s a (some-by pruned) (g .fit) q (g .whole) (g .few) (g .docs) (g .small) os (rowsOf table) b count j past (w .here) (runOf (indexOf s .docs) r) e in
-            each-more (λ (x : Row). x .doc < w .here .p) (λ (x : Row). x .doc < r .past - 1) (λ x h. omega (arith, doc-is (ends Entered is .0))) (rowsOf table) (stands-under a (w .here .p) table (w .here .reached .ranks))
+            each-more (λ (x : Row). x .doc < w .here .p) (λ (x : Row). x .doc < r .past - 1) (λ x h. omega (arith, doc-is (ends Entered is .0))) (rowsOf table)
+            (stands-under a (w .here .p) table (w .here .reached .ranks))
 
         -- the rank only rises
         module _ (next : Table) (rows : rowsOf next ≡ with-it (r .past - 1)) where
@@ -260,7 +262,8 @@ module _ {s : List ℕ} {q k budget N : ℕ} {pruned : Bool} {pre : List ℕ} {l
           risen =
               let there : suc (r .past - 1) ≡ r .past = omega (arith, l .some) in
               let early = no-earlier s a (some-by pruned) (g .fit) q (g .whole) (g .few) (g .docs) (g .small) os (rowsOf table) b count j past (w .here) (runOf (indexOf s .docs) r) e in
-              bar-rises s a (some-by pruned) (g .fit) q (g .whole) (g .few) (g .docs) (g .small) os (rowsOf table) b count j past (w .here) (r .past - 1) (r .count) (rowsOf next) (omega (arith, doc-is (ends Entered is .0))) (rw (there, rows) entered-reached)
+              bar-rises s a (some-by pruned) (g .fit) q (g .whole) (g .few) (g .docs) (g .small) os (rowsOf table) b count j past (w .here)
+              (r .past - 1) (r .count) (rowsOf next) (omega (arith, doc-is (ends Entered is .0))) (rw (there, rows) entered-reached)
 
           pub rank-below : (j ≤ limit) × (getD pre j 0 ≤ kth k (rowsOf next))
           rank-below = (rank-low .0, omega (arith, rank-low .1, risen))
