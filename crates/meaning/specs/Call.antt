@@ -5,10 +5,15 @@ use lib.ListN.{length, getD, take, drop}
 use lib.Dec.{leb}
 use Rattle.meaning.specs.declared.Outcome.{Outcome}
 use Rattle.meaning.specs.declared.Outcome.the-variants.{Done, Refused}
-use Rattle.meaning.specs.Judged.{Judged, good, bad, _>>=_, need}
+use Rattle.meaning.specs.Judged.{Judged, good, bad, _>>=_, need, readOr}
+use Rattle.meaning.specs.Layout.{headerOf}
 use Rattle.meaning.specs.Image.{Index, imageOf}
 use Rattle.meaning.specs.Sheet.{Query, sheetOf}
 use Rattle.meaning.specs.Answer.{answer}
+
+-- the queries of a sheet that is handed over with an image; none where it is refused
+abbrev pub queriesIn : List ℕ → List ℕ → List Query
+queriesIn image sheet = readOr [] (sheetOf sheet (headerOf image .terms))
 
 -- "Each query writes only into its own stretch .., which starts where the previous one ended."
 unfoldable pub answers : Index → List Query → List ℕ

@@ -1,40 +1,37 @@
 -- The refusals of a whole call: numbers 1 to 15 at the places of the table, the image's before the sheet's, and 15 last.
 use mathlib.Core.Path.{_≡_, refl}
-use mathlib.Core.List.{List, []}
+use mathlib.Core.List.{List}
 use mathlib.Core.Logic.{_↔_}
 use Prim.Native.Nat.{ℕ, _<_}
 use native.Mathlib.Omega.{arith}
 use lib.Dec.{leb}
 use lib.ListN.{length, getD}
 use borrow.Author.Tests.{leb-false, lt-leb}
-use Rattle.meaning.specs.Judged.{good, bad, readOr}
+use Rattle.meaning.specs.Judged.{good, bad}
 use Rattle.meaning.specs.JudgedLaws.{Faults, no-fault, need-faults, bind-faults, more-faults}
 use Rattle.meaning.specs.Layout.{headerOf}
 use Rattle.meaning.specs.Image.{Index, imageOf}
 use Rattle.meaning.specs.Sheet.{Query, sheetOf}
-use Rattle.meaning.specs.Call.{needed, judged}
+use Rattle.meaning.specs.Call.{queriesIn, needed, judged}
 use Rattle.meaning.specs.IndexLaws.{index-terms}
 use Rattle.meaning.specs.RefusalLaws.{image-fault, sheet-fault}
 use Rattle.meaning.specs.PlaceFits.{PlaceFits}
 
--- the numbers that the answers to a sheet on an image fill
-abbrev pub asked : List ℕ → List ℕ → ℕ
-asked image sheet = needed (readOr [] (sheetOf sheet (headerOf image .terms)))
-
 module _ (image sheet row : List ℕ) where
   Table : ℕ → ℕ → Type 0
-  Table number place = PlaceFits (headerOf image .terms) (getD sheet 0 0) (asked image sheet) number place
+  Table number place = PlaceFits (headerOf image .terms) (getD sheet 0 0) (needed (queriesIn image sheet)) number place
 
   judged-faults : Faults Table (judged image sheet row)
   unfolding judged Table
   judged-faults =
-      bind-faults Table (more-faults (λ n p f. f .1) (image-fault image (getD sheet 0 0) (asked image sheet))) (λ ix e.
-      bind-faults Table (more-faults (λ n p f. f .1) (sheet-fault sheet (length (ix .terms)) (headerOf image .terms) (asked image sheet))) (λ qs k.
-      let room : needed qs ≡ asked image sheet = rw (← index-terms image ix e, k) in
+      bind-faults Table (more-faults (λ n p f. f .1) (image-fault image (getD sheet 0 0) (needed (queriesIn image sheet)))) (λ ix e.
+      bind-faults Table (more-faults (λ n p f. f .1) (sheet-fault sheet (length (ix .terms)) (headerOf image .terms) (needed (queriesIn image sheet)))) (λ qs k.
+      let room : needed qs ≡ needed (queriesIn image sheet) = rw (← index-terms image ix e, k) in
       need-faults Table (leb (needed qs) (length row)) (λ _. omega arith) (λ _ _. no-fault Table _)))
 
   -- "refused with a number and a place": only numbers 1 to 15 come, each at a place that its row gives
-  pub refused-at : (number place : ℕ) → judged image sheet row ≡ bad number place → PlaceFits (headerOf image .terms) (getD sheet 0 0) (asked image sheet) number place
+  pub refused-at : (number place : ℕ) → judged image sheet row ≡ bad number place →
+      PlaceFits (headerOf image .terms) (getD sheet 0 0) (needed (queriesIn image sheet)) number place
   unfolding Table
   refused-at = judged-faults .given
 

@@ -51,3 +51,6 @@ pub mod WordLaws
 pub mod MentionLaws
 pub mod CallLaws
 pub mod OnlyLaws
+pub mod ResheetLaws
+pub mod DoneLaws
+pub mod Demands

@@ -17,7 +17,7 @@ use Rattle.meaning.specs.IndexLaws.{index-is}
 use Rattle.meaning.specs.CallLaws.{stretch-at}
 
 -- "a definition that gives this paper's number and values for each of its cases": no two outcomes say the same
-says-same : (a b : Outcome) → says a ≡ says b → a ≡ b
+pub says-same : (a b : Outcome) → says a ≡ says b → a ≡ b
 unfolding says
 says-same (Done m) (Done n) e = cc
 says-same (Done m) (Refused n p) e = absurd (let z : _≡_ {A = ℕ} 0 1 = cc in omega arith)

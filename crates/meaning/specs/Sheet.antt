@@ -19,6 +19,13 @@ pub record Query : Type 0 where
   pub budget : ℕ
   pub pairs : List Pair
 
+abbrev pub noQuery : Query
+noQuery = record { mode = Plain; k = 0; budget = 0; pairs = [] }
+
+-- the same but for the budget
+abbrev pub rebudgeted : Query → ℕ → Query
+rebudgeted q b = record { mode = q .mode; k = q .k; budget = b; pairs = q .pairs }
+
 -- the number n is `low` to `high`
 abbrev pub within : ℕ → ℕ → ℕ → Bool
 within low high n = leb low n && leb n high
@@ -77,7 +84,8 @@ sheetOf s T = do
   _ ← need (within 1 64 (getD s 0 0)) 9 0
   queriesAt s T 0 1 (getD s 0 0)
 
--- the numbers of a sheet that these queries take
+-- the numbers of a sheet that these queries take; before them stands the number of queries, so that query i's budget is number
+-- 1 + numbersOf (take i qs) + 2 of the sheet
 unfoldable pub numbersOf : List Query → ℕ
 numbersOf [] = 0
 numbersOf (q ∷ qs) = 4 + 2 * length (q .pairs) + numbersOf qs
