@@ -14,7 +14,7 @@ use mentions::Mention;
 pub const PART: usize = 66;
 
 // Where a mention is in its part of the room: its key, the place after that, and the key there.
-#[derive(Drop)]
+#[derive(Clone, Copy)]
 pub struct Spot {
     pub place: usize,
     pub key: u64,

@@ -8,7 +8,7 @@ ghost use Rattle.cursor.specs.Sound.{Ready, Sound, StandsFor};
 ghost use Rattle.cursor.specs.Steps.{taken_at, opened_at, ended_at};
 
 // A place in a list, by value: what is left of the list is the current posting and all that follow it.
-#[derive(Drop)]
+#[derive(Clone, Copy)]
 pub struct Cursor {
     // the current document plus one; 4294967295 after the last posting
     pub past: u32,
@@ -27,7 +27,7 @@ pub struct Cursor {
 }
 
 // A list at its first posting, with its directory entry's number of postings and largest impact.
-#[derive(Drop)]
+#[derive(Clone, Copy)]
 pub struct Opened {
     pub cursor: Cursor,
     pub count: u32,

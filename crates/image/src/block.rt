@@ -11,7 +11,7 @@ use words::{ones_of, per_word, read_words, weigh};
 const FEW: usize = 16;
 
 // What judging a block's postings says.
-#[derive(Drop)]
+#[derive(Clone, Copy)]
 pub enum Postings {
     // refusal 6
     Wrong,
@@ -20,7 +20,7 @@ pub enum Postings {
 }
 
 // What judging a block says.
-#[derive(Drop)]
+#[derive(Clone, Copy)]
 pub enum Block {
     // the refusal's number
     Wrong(u32),

@@ -8,7 +8,7 @@ use super::list::{Blocks, judge_blocks};
 use layout::{Entry, read_entry};
 
 // What judging one term's list says.
-#[derive(Drop)]
+#[derive(Clone, Copy)]
 pub enum Listed {
     // the refusal's number
     Wrong(u32),
@@ -17,7 +17,7 @@ pub enum Listed {
 }
 
 // What judging every term's list says.
-#[derive(Drop)]
+#[derive(Clone, Copy)]
 pub enum Lists {
     // the refusal's number, and the term
     Wrong(u32, usize),

@@ -8,7 +8,7 @@ ghost use Rattle.meaning.specs.Image.{image_of};
 ghost use Rattle.image.specs.Verdict.{ends_well, verdict, sizes_of};
 
 // What judging says of an image: the number and place of its first fault, or its number of terms and of documents.
-#[derive(Drop)]
+#[derive(Clone, Copy)]
 pub enum Verdict {
     Refused(u32, usize),
     Accepted(usize, u32),

@@ -6,7 +6,7 @@ ghost use Rattle.image.specs.Answers.{keep, ended_of, blocks_say};
 use super::block::{Block, judge_block, larger};
 
 // What judging the blocks of a list says.
-#[derive(Drop)]
+#[derive(Clone, Copy)]
 pub enum Blocks {
     // the refusal's number
     Wrong(u32),

@@ -5,7 +5,7 @@ ghost use Rattle.meaning.specs.Layout.{header_of, entry_at, head_at};
 ghost use Rattle.layout.specs.Fields.{header_fields, entry_fields, head_fields};
 
 // "version (4, value 1), number of terms T (12), number of documents N (24), length of the image in bytes (24)".
-#[derive(Drop)]
+#[derive(Clone, Copy)]
 pub struct Header {
     pub version: u64,
     pub terms: usize,
@@ -14,7 +14,7 @@ pub struct Header {
 }
 
 // "first bit of the list (32), number of postings (24), largest impact of the list (8)".
-#[derive(Drop)]
+#[derive(Clone, Copy)]
 pub struct Entry {
     pub first: usize,
     pub count: usize,
@@ -22,7 +22,7 @@ pub struct Entry {
 }
 
 // "postings less one (7 bits ..), gap width w (5 bits ..), largest impact of the block (8), document number of its last posting (24)".
-#[derive(Drop)]
+#[derive(Clone, Copy)]
 pub struct Head {
     pub count: usize,
     pub width: usize,

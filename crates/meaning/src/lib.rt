@@ -1,7 +1,7 @@
 // What the finder means: the types that the meaning shares with the code. Document 01 stands as definitions in specs/.
 
 // "one of three named kinds": 0 plain, 1 pruned, 2 all terms.
-#[derive(Drop)]
+#[derive(Clone, Copy)]
 pub enum Mode {
     Plain,
     Pruned,
@@ -9,14 +9,14 @@ pub enum Mode {
 }
 
 // "either done with the count of numbers filled, or refused with a number and a place".
-#[derive(Drop)]
+#[derive(Clone, Copy)]
 pub enum Outcome {
     Done(usize),
     Refused(u32, usize),
 }
 
 // A row of an answer: a document and its score.
-#[derive(Drop)]
+#[derive(Clone, Copy)]
 pub struct Row {
     pub doc: u32,
     pub score: u32,

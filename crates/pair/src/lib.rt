@@ -8,7 +8,7 @@ use ahead::Spot;
 use mentions::{Mention, Tally};
 
 // The one mention above rank j where it is left, with the last document plus one and the tally there.
-#[derive(Drop)]
+#[derive(Clone, Copy)]
 pub struct Swept {
     pub mention: Mention,
     pub past: u32,
@@ -16,7 +16,7 @@ pub struct Swept {
 }
 
 // Two mentions where they are left in their parts of the room, with the last document plus one and the tally there.
-#[derive(Drop)]
+#[derive(Clone, Copy)]
 pub struct Drawn {
     pub x: Spot,
     pub y: Spot,

@@ -1,7 +1,7 @@
 // What the printing program prints, laid into a lent buffer, and what it decides and reads before. Document 01, "The printing program".
 // Each writer lays its text from byte `at` on and answers the place after it; what is past the buffer's end is left out.
 ghost use Rattle.std.specs.Prelude.{◌≡◌, ◌+◌, ◌*◌, ◌≤◌, min, [], ◌∷◌, length, get_or};
-ghost use Rattle.printing.specs.Text.{decimal as Text·decimal};
+ghost use Rattle.printing.specs.Text.{decimal as text_decimal};
 ghost use Rattle.printing.specs.Text.{pair_line, first_line, row_lines, answer_lines, refused_line};
 ghost use Rattle.printing.specs.Laid.{Wrote, Within};
 ghost use Rattle.printing.specs.Printable.{Printable, Printed};
@@ -9,7 +9,7 @@ ghost use Rattle.printing.specs.Decide.{decided, decision_line};
 ghost use Rattle.printing.specs.Numbers.{four_bytes, Taken};
 
 // What the program's two files come to: one of three lines, or an answer to be asked for.
-#[derive(Drop)]
+#[derive(Clone, Copy)]
 pub enum Decision {
     NoFile,
     TooLarge,
@@ -51,7 +51,7 @@ fn words(out: &mut [u8], start: usize, bytes: &[u8]) -> usize
 // A number in decimal.
 fn decimal(out: &mut [u8], at: usize, x: u64) -> usize
     requires { Within at 20 }
-    ensures { Wrote at (Text·decimal x) out.old out.new result }
+    ensures { Wrote at (text_decimal x) out.old out.new result }
 {
     if x < 10 {
         return put(out, at, 48 + x as u8);

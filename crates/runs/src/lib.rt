@@ -2,7 +2,7 @@
 // The definitions and the laws stand in specs/; the code shares the three ways in which a run ends.
 
 // How a run ends: no document is left; the stop rule stops before one; one enters the table.
-#[derive(Drop)]
+#[derive(Clone, Copy)]
 pub enum Turn {
     Finished,
     Stopped,

@@ -9,14 +9,14 @@ ghost use Rattle.sheet.specs.Record.{Readable, IsRecord};
 use meaning::Mode;
 
 // What judging says of a sheet: the number and place of its first fault, or how many numbers its answers fill.
-#[derive(Drop)]
+#[derive(Clone, Copy)]
 pub enum Verdict {
     Refused(u32, usize),
     Accepted(usize),
 }
 
 // A query's record: the mode as one of three named kinds, and where its q pairs stand.
-#[derive(Drop)]
+#[derive(Clone, Copy)]
 pub struct Record {
     pub mode: Mode,
     pub k: usize,
@@ -26,14 +26,14 @@ pub struct Record {
 }
 
 // What judging keeps of a query: the rows that it asks for, and how many pairs it has.
-#[derive(Drop)]
+#[derive(Clone, Copy)]
 struct Extent {
     pub k: usize,
     pub q: usize,
 }
 
 // What judging says of a query: the number and place of its first fault, or its extent.
-#[derive(Drop)]
+#[derive(Clone, Copy)]
 enum Asked {
     Refused(u32, usize),
     Fine(Extent),

@@ -15,7 +15,7 @@ pub const NONE: u64 = 18446744073709551615;
 const FEW: usize = 8;
 
 // Where the postings were left: the lowest key, the last document plus one, and the tally there.
-#[derive(Drop)]
+#[derive(Clone, Copy)]
 pub struct Run {
     pub top: u64,
     pub past: u32,

@@ -13,7 +13,7 @@ pub const DONE: u32 = 4294967295;
 
 // How a walk ended, with the mentions where it left them: the document plus one, its sum, the postings scored up to then, and the next
 // document plus one.
-#[derive(Drop)]
+#[derive(Clone, Copy)]
 pub struct Visit {
     pub ms: [Mention; 16],
     pub turn: Turn,

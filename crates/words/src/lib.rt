@@ -173,7 +173,7 @@ fn total(gaps: u64, stride: usize, k: usize) -> u64
 }
 
 // What weighing words says: the sum of the gaps; `bad` is 0 only where each impact is 1 to the largest, and `hit` above 0 only where one is the largest.
-#[derive(Drop)]
+#[derive(Clone, Copy)]
 pub struct Weight {
     pub gaps: u64,
     pub bad: u64,

@@ -4,19 +4,26 @@ use Rattle.ahead.proofs.refilled.Statement.{statement}
 use Rattle.ahead.proofs.refilled.Tie as tie
 
 stood-requires : tie.Need-stood-requires
-stood-requires c κs = c.before.before.requires.0
+stood-requires c κs = c.requires.0
 
-went-requires : tie.Need-went-requires
-went-requires c κs = let p = c.before.before.before.requires in rw c.stood.ensures (p.4, p.5)
+went-r-requires : tie.Need-went-r-requires
+went-r-requires c κs = let p = c.requires in rw c.stood.ensures (p.4, p.5)
 
 unpack-requires : tie.Need-unpack-requires
 unpack-requires c κs = search rules
 
-same_length : tie.Need-same-length
-same_length c = search rules
+shape_of-room : tie.Need-shape_of-room
+shape_of-room c = search rules
 
 returns : tie.Need-returns
-returns c = (rw c.before.before.before.before.before.stood.ensures at c.before.before.before.before.went.ensures, c.before.before.unpack.ensures)
+returns c = (rw c.stood.ensures at c.went-r.ensures, c.unpack.ensures)
 
-pub refilled-spec : {M : Type 1} → statement M
-refilled-spec = tie.close (tie.spec stood-requires went-requires unpack-requires same_length returns)
+pub refilled_spec : {M : Type 1} → statement M
+refilled_spec =
+    tie.close
+    (tie.spec
+    stood-requires
+    went-r-requires
+    unpack-requires
+    shape_of-room
+    returns)

@@ -13,108 +13,104 @@ use Rattle.ahead.proofs.unpack.Statement.{statement}
 use Rattle.ahead.proofs.unpack.Tie as tie
 
 key-requires : tie.Need-key-requires
-key-requires c κs = c.before.before.requires.1
+key-requires c κs = c.requires.1
 
-mul-room : tie.Need-overflow-mul-room
-mul-room c = omega (arith, c.before.before.before.requires.2)
+offset_bounds-room-base : tie.Need-offset_bounds-room-base
+offset_bounds-room-base c = omega (arith, c.requires.2)
 
-slice-write-room : tie.Need-slice-write-room
-slice-write-room c = omega (arith, c.before.before.before.requires.2, c.before.before.before.requires.5)
+bounds-room-base : tie.Need-bounds-room-base
+bounds-room-base c = omega (arith, c.requires.2, c.requires.5)
 
-cast-rest : tie.Need-overflow-cast-rest
-cast-rest c = search rules
+overflow_cast-rest : tie.Need-overflow_cast-rest
+overflow_cast-rest c = search rules
 
-add-end : tie.Need-overflow-add-end
-add-end c = omega (arith, c.before.before.before.before.before.requires.2)
+overflow_add-end : tie.Need-overflow_add-end
+overflow_add-end c = omega (arith, c.requires.2)
 
-add-end-2 : tie.Need-overflow-add-end-2
-add-end-2 c = let s = c.before.before.before.before.before in omega (arith, s.requires.2, s.requires.4)
+overflow_add-end-then-rest-most : tie.Need-overflow_add-end-then-rest-most
+overflow_add-end-then-rest-most c = omega (arith, c.requires.2, c.requires.4)
 
-add-end-3 : tie.Need-overflow-add-end-3
-add-end-3 c = let s = c.before.before.before.before.before in omega (arith, s.requires.2, s.requires.4)
+overflow_add-end-else-rest-most : tie.Need-overflow_add-end-else-rest-most
+overflow_add-end-else-rest-most c = omega (arith, c.requires.2, c.requires.4)
 
 -- the first key is in, and `end` is no further than the block goes, nor than 64 places
-begun : (c : tie.Joined1) → let s = c.before.before.before.before.before in let a = s.args in
-    Begun a.image.now a.c a.p a.base c.if1.end (set a.room.now a.base c.before.before.key.result)
+begun : (c : tie.Joined-rest-most) → let a = c.args in
+    Begun a.image.now a.c a.p a.base c.if-rest-most.end (set a.room.now a.base c.key.result)
 begun c =
-    let s = c.before.before.before.before.before in
-    let a = s.args in
-    let k = c.before.before.key.result in
-    let wide : a.base + 65 ≤ length a.room.now = omega (arith, s.requires.2, s.requires.5) in
+    let a = c.args in
+    let k = c.key.result in
+    let wide : a.base + 65 ≤ length a.room.now = omega (arith, c.requires.2, c.requires.5) in
     record {
-      sound = s.requires.0;
-      mention = s.requires.1;
-      small = omega (arith, s.requires.2);
+      sound = c.requires.0;
+      mention = c.requires.1;
+      small = omega (arith, c.requires.2);
       wide = omega (arith, wide, length-set a.room.now a.base k);
-      low = ⊎_elim (λ w. omega (arith, w.1)) (λ w. omega (arith, w.1, s.requires.3)) c.if1.branch;
-      high = ⊎_elim (λ w. omega (arith, w.0.taken, w.1, s.requires.4)) (λ w. omega (arith, w.1, s.requires.4)) c.if1.branch;
-      most = ⊎_elim (λ w. omega (arith, w.1)) (λ w. omega (arith, w.0.left, w.1)) c.if1.branch;
-      first = get_or-set_same a.room.now a.base k 0 (omega (arith, wide)) ∙ c.before.before.key.ensures;
+      low = ⊎_elim (λ w. omega (arith, w.end-is)) (λ w. omega (arith, w.end-is, c.requires.3)) c.if-rest-most.branch-raw;
+      high = ⊎_elim (λ w. omega (arith, w.if-rest-most.true, w.end-is, c.requires.4)) (λ w. omega (arith, w.end-is, c.requires.4)) c.if-rest-most.branch-raw;
+      most = ⊎_elim (λ w. omega (arith, w.end-is)) (λ w. omega (arith, w.if-rest-most.false, w.end-is)) c.if-rest-most.branch-raw;
+      first = get_or-set_same a.room.now a.base k 0 (omega (arith, wide)) ∙ c.key.ensures;
     }
 
 reach-requires : tie.Need-reach-requires
 reach-requires c κs = search rules
 
-cast-if2 : tie.Need-overflow-cast-if2
-cast-if2 c = search rules
+overflow_cast-c : tie.Need-overflow_cast-c
+overflow_cast-c c = search rules
 
-sub-if2 : tie.Need-overflow-sub-if2
-sub-if2 c = omega (arith, c.before.before.before.before.before.before.before.requires.0.ready.room)
+overflow_sub-image : tie.Need-overflow_sub-image
+overflow_sub-image c = omega (arith, c.requires.0.ready.room)
 
-unpack-far-requires : tie.Need-unpack-far-requires
-unpack-far-requires c κs =
-    let j = c.before.before.before.before in
-    let s = j.before.before.before.before.before in
-    let r = c.before.before.before.reach.ensures in
-    let far = c.before.if2.true in (
-      begun j,
+unpack_far-requires : tie.Need-unpack_far-requires
+unpack_far-requires c κs =
+    let r = c.reach.ensures in
+    let far = c.if-reach-image.true in (
+      begun c.before.before.before.before,
       omega (arith, far, r.0),
-      by_order 28 s.args.c.step (λ long. absurd (omega (arith, far, r.1 long, s.requires.0.ready.short))) (λ short. short),
+      by_order 28 c.args.c.step (λ long. absurd (omega (arith, far, r.1 long, c.requires.0.ready.short))) (λ short. short),
     )
 
-unpack-near-requires : tie.Need-unpack-near-requires
-unpack-near-requires c κs = begun c.before.before.before.before
+unpack_near-requires : tie.Need-unpack_near-requires
+unpack_near-requires c κs = begun c.before.before.before.before
 
 -- the keys are in, whichever way they came
-keys : (c : tie.Joined2) → let j = c.before.before.before in let s = j.before.before.before.before.before in let a = s.args in
-    Filling a.image.now a.c a.p a.base (set a.room.now a.base j.before.before.key.result) j.if1.end c.if2.room
-keys c = ⊎_elim (λ w. rw w.5 w.2.ensures) (λ w. rw w.5 w.2.ensures) c.if2.branch
+keys : (c : tie.Joined-reach-image) → let a = c.args in
+    Filling a.image.now a.c a.p a.base (set a.room.now a.base c.key.result) c.if-rest-most.end c.if-reach-image.room
+keys c = ⊎_elim (λ w. rw w.room-is w.unpack_far.ensures) (λ w. rw w.room-is w.unpack_near.ensures) c.if-reach-image.branch-raw
 
-mul-room-2 : tie.Need-overflow-mul-room-2
-mul-room-2 c =
+offset_bounds-room-end : tie.Need-offset_bounds-room-end
+offset_bounds-room-end c =
     let b = begun c.before.before.before.before in
     omega (arith, b.high, b.small)
 
-slice-write-room-2 : tie.Need-slice-write-room-2
-slice-write-room-2 c =
+bounds-room-end : tie.Need-bounds-room-end
+bounds-room-end c =
     let b = begun c.before.before.before.before in
     omega (arith, b.high, b.wide, (keys c.before).long)
 
 returns : tie.Need-returns
 returns c =
-    let j = c.before.before.before.before in
-    unpacked_from j.before.before.before.before.before.args.room.now j.before.before.key.result (filling_end (begun j).wide (keys c.before))
+    unpacked_from c.args.room.now c.key.result (filling_end (begun c.before.before.before.before).wide (keys c.before))
 
-same_length : tie.Need-same-length
-same_length c = (returns c).long
+shape_of-room : tie.Need-shape_of-room
+shape_of-room c = (returns c).long
 
-pub unpack-spec : {M : Type 1} → statement M
-unpack-spec =
+pub unpack_spec : {M : Type 1} → statement M
+unpack_spec =
     tie.close
     (tie.spec
     key-requires
-    mul-room
-    slice-write-room
-    cast-rest
-    add-end
-    add-end-2
-    add-end-3
+    offset_bounds-room-base
+    bounds-room-base
+    overflow_cast-rest
+    overflow_add-end
+    overflow_add-end-then-rest-most
+    overflow_add-end-else-rest-most
     reach-requires
-    cast-if2
-    sub-if2
-    unpack-far-requires
-    unpack-near-requires
-    mul-room-2
-    slice-write-room-2
-    same_length
+    overflow_cast-c
+    overflow_sub-image
+    unpack_far-requires
+    unpack_near-requires
+    offset_bounds-room-end
+    bounds-room-end
+    shape_of-room
     returns)

@@ -12,92 +12,82 @@ use Rattle.ahead.specs.RoomLaws.{further_rest, further_next, further_sound, fill
 use Rattle.ahead.proofs.unpack_near.Statement.{statement}
 use Rattle.ahead.proofs.unpack_near.Tie as tie
 
-abbrev invariant-loop : tie.invariant-loop
-invariant-loop image p base end room₀ c₀ at₀ room c at = Filling image c₀ p base room₀ at room × (c ≡ further_at image c₀ (at - base - 1)) × (at ≤ end)
+abbrev invariant-loop-at : tie.invariant-loop-at
+invariant-loop-at image p base end room₀ c₀ at₀ room c at = Filling image c₀ p base room₀ at room × (c ≡ further_at image c₀ (at - base - 1)) × (at ≤ end)
 
-abbrev decreases-loop : tie.decreases-loop
-decreases-loop image p base end room₀ c₀ at₀ room c at = end - at
+abbrev decreases-loop-at : tie.decreases-loop-at
+decreases-loop-at image p base end room₀ c₀ at₀ room c at = end - at
 
-add_at : tie.Need-overflow-add-at invariant-loop decreases-loop
-add_at c = omega (arith, c.before.before.requires.small)
+overflow_add-at : tie.Need-overflow_add-at invariant-loop-at decreases-loop-at
+overflow_add-at c = omega (arith, c.requires.small)
 
-loop-holds : tie.Need-loop-init invariant-loop decreases-loop
-loop-holds c =
-    let s = c.before.before in
-    let none : 0 ≡ s.args.base + 1 - s.args.base - 1 = omega arith in
-    (filling_first s.requires, ap (further_at s.args.image.now s.args.c) none, omega (arith, s.requires.low))
+loop-at-init : tie.Need-loop-at-init invariant-loop-at decreases-loop-at
+loop-at-init c =
+    let none : 0 ≡ c.args.base + 1 - c.args.base - 1 = omega arith in
+    (filling_first c.requires, ap (further_at c.args.image.now c.args.c) none, omega (arith, c.requires.low))
 
 -- the block has one posting more
-some : (c : tie.In-loop invariant-loop decreases-loop) → let l = c.before in let s = l.before.before.before in (l.loop.at - s.args.base ≤ s.args.c.rest) × (l.loop.at < s.args.base + 64)
+some : (c : tie.In-loop-at invariant-loop-at decreases-loop-at) → (c.loop-at.at - c.args.base ≤ c.args.c.rest) × (c.loop-at.at < c.args.base + 64)
 some c =
-    let l = c.before in
-    let s = l.before.before.before in
-    (omega (arith, s.requires.most, s.requires.low, l.loop.invariant.0.low), omega (arith, s.requires.high))
+    (omega (arith, c.requires.most, c.requires.low, c.loop-at.invariant.0.low), omega (arith, c.requires.high))
 
-take-next-requires : tie.Need-take-next-requires invariant-loop decreases-loop
-take-next-requires c κs =
-    let l = c.before in
-    let s = l.before.before.before in
-    let image = s.args.image.now in
-    let k = l.loop.at - s.args.base - 1 in (
-      subst (Sound image (index_of image).docs) (sym l.loop.invariant.1) (further_sound s.requires.sound k (omega (arith, (some c).0))),
-      omega (arith, ap (λ (d : Cursor). d.rest) l.loop.invariant.1, further_rest image s.args.c k, (some c).0, l.loop.invariant.0.low),
+take_next-c-requires : tie.Need-take_next-c-requires invariant-loop-at decreases-loop-at
+take_next-c-requires c κs =
+    let image = c.args.image.now in
+    let k = c.loop-at.at - c.args.base - 1 in (
+      subst (Sound image (index_of image).docs) (sym c.loop-at.invariant.1) (further_sound c.requires.sound k (omega (arith, (some c).0))),
+      omega (arith, ap (λ (d : Cursor). d.rest) c.loop-at.invariant.1, further_rest image c.args.c k, (some c).0, c.loop-at.invariant.0.low),
     )
 
-key-requires : tie.Need-key-requires invariant-loop decreases-loop
-key-requires c κs = c.before.before.before.before.before.requires.mention
+key-requires : tie.Need-key-requires invariant-loop-at decreases-loop-at
+key-requires c κs = c.requires.mention
 
-mul-room : tie.Need-overflow-mul-room invariant-loop decreases-loop
-mul-room c = omega (arith, (some c.before.before).1, c.before.before.before.before.before.before.requires.small)
+offset_bounds-room-at : tie.Need-offset_bounds-room-at invariant-loop-at decreases-loop-at
+offset_bounds-room-at c = omega (arith, (some c.before.before).1, c.requires.small)
 
-slice-write-room : tie.Need-slice-write-room invariant-loop decreases-loop
-slice-write-room c =
-    let l = c.before.before.before in
-    omega (arith, (some c.before.before).1, l.before.before.before.requires.wide, l.loop.invariant.0.long)
+bounds-room-at : tie.Need-bounds-room-at invariant-loop-at decreases-loop-at
+bounds-room-at c =
+    omega (arith, (some c.before.before).1, c.requires.wide, c.loop-at.invariant.0.long)
 
-add-at-2 : tie.Need-overflow-add-at-2 invariant-loop decreases-loop
-add-at-2 c = omega (arith, (some c.before.before).1, c.before.before.before.before.before.before.requires.small)
+overflow_add-at-in-loop-at : tie.Need-overflow_add-at-in-loop-at invariant-loop-at decreases-loop-at
+overflow_add-at-in-loop-at c = omega (arith, (some c.before.before).1, c.requires.small)
 
-loop-less : tie.Need-loop-smaller invariant-loop decreases-loop
-loop-less c = omega arith
+loop-at-smaller : tie.Need-loop-at-smaller invariant-loop-at decreases-loop-at
+loop-at-smaller c = omega arith
 
-loop-again : tie.Need-loop-preserved invariant-loop decreases-loop
-loop-again c =
-    let l = c.before.before.before in
-    let s = l.before.before.before in
-    let image = s.args.image.now in
-    let low = l.loop.invariant.0.low in
-    let next = c.before.take_next.ensures ∙ ap (taken_at image) l.loop.invariant.1 ∙ sym (further_next image s.args.c low) in
-    let on : l.loop.at - s.args.base ≡ l.loop.at + 1 - s.args.base - 1 = omega arith in (
-      filling_more s.requires.wide l.loop.invariant.0 (some c.before.before).1 (some c.before.before).0
-          (c.key.ensures ∙ ap (λ (d : Cursor). key_of d s.args.p) next),
-      next ∙ ap (further_at image s.args.c) on,
+loop-at-preserved : tie.Need-loop-at-preserved invariant-loop-at decreases-loop-at
+loop-at-preserved c =
+    let image = c.args.image.now in
+    let low = c.loop-at.invariant.0.low in
+    let next = c.take_next-c.ensures ∙ ap (taken_at image) c.loop-at.invariant.1 ∙ sym (further_next image c.args.c low) in
+    let on : c.loop-at.at - c.args.base ≡ c.loop-at.at + 1 - c.args.base - 1 = omega arith in (
+      filling_more c.requires.wide c.loop-at.invariant.0 (some c.before.before).1 (some c.before.before).0
+          (c.key.ensures ∙ ap (λ (d : Cursor). key_of d c.args.p) next),
+      next ∙ ap (further_at image c.args.c) on,
       omega arith,
     )
 
-returns : tie.Need-returns invariant-loop decreases-loop
+returns : tie.Need-returns invariant-loop-at decreases-loop-at
 returns c =
-    let l = c.before in
-    let s = l.before.before.before in
-    subst (λ (at : ℕ). Filling s.args.image.now s.args.c s.args.p s.args.base s.args.room.now at l.loop.room) (omega arith) l.loop.invariant.0
+    subst (λ (at : ℕ). Filling c.args.image.now c.args.c c.args.p c.args.base c.args.room.now at c.loop-at.room) (omega arith) c.loop-at.invariant.0
 
-same_length : tie.Need-same-length invariant-loop decreases-loop
-same_length c = c.before.loop.invariant.0.long
+shape_of-room : tie.Need-shape_of-room invariant-loop-at decreases-loop-at
+shape_of-room c = c.loop-at.invariant.0.long
 
-pub unpack-near-spec : {M : Type 1} → statement M
-unpack-near-spec =
+pub unpack_near_spec : {M : Type 1} → statement M
+unpack_near_spec =
     tie.close
     (tie.spec
-    invariant-loop
-    decreases-loop
-    add_at
-    loop-holds
-    take-next-requires
+    invariant-loop-at
+    decreases-loop-at
+    overflow_add-at
+    loop-at-init
+    take_next-c-requires
     key-requires
-    mul-room
-    slice-write-room
-    add-at-2
-    loop-less
-    loop-again
-    same_length
+    offset_bounds-room-at
+    bounds-room-at
+    overflow_add-at-in-loop-at
+    loop-at-smaller
+    loop-at-preserved
+    shape_of-room
     returns)

@@ -9,20 +9,26 @@ use Rattle.bits.proofs.field.Tie as tie
 window-requires : tie.Need-window-requires
 window-requires c κs = search rules
 
-shl-result : tie.Need-overflow-shl-result
-shl-result c = search rules
+overflow_shl-result : tie.Need-overflow_shl-result
+overflow_shl-result c = search rules
 
-sub-result : tie.Need-overflow-sub-result
-sub-result c = search rules
+overflow_sub-result : tie.Need-overflow_sub-result
+overflow_sub-result c = search rules
 
-shr-result : tie.Need-overflow-shr-result
-shr-result c = search rules
+overflow_shr-result-2 : tie.Need-overflow_shr-result-2
+overflow_shr-result-2 c = search rules
 
 returns : tie.Need-returns
 returns c =
-    let s = c.before.before in
-    ap (λ (v : ℕ). v * 2 ^ s.args.shift % 2 ^ 64 / 2 ^ 1 / 2 ^ (63 - s.args.n)) c.window.ensures
-    ∙ shifts_field s.args.part.now s.args.shift s.args.n s.requires.0 s.requires.1
+    ap (λ (v : ℕ). v * 2 ^ c.args.shift % 2 ^ 64 / 2 ^ 1 / 2 ^ (63 - c.args.n)) c.window.ensures
+    ∙ shifts_field c.args.part.now c.args.shift c.args.n c.requires.0 c.requires.1
 
-pub field-spec : {M : Type 1} → statement M
-field-spec = tie.close (tie.spec window-requires shl-result sub-result shr-result returns)
+pub field_spec : {M : Type 1} → statement M
+field_spec =
+    tie.close
+    (tie.spec
+    window-requires
+    overflow_shl-result
+    overflow_sub-result
+    overflow_shr-result-2
+    returns)

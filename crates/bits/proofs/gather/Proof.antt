@@ -9,68 +9,64 @@ use Rattle.bits.specs.Windows.{bytes_more}
 use Rattle.bits.proofs.gather.Statement.{statement}
 use Rattle.bits.proofs.gather.Tie as tie
 
-abbrev invariant-loop : tie.invariant-loop
-invariant-loop part m v₀ i₀ v i = (i ≤ m) × (v ≡ bits_at part 0 (8 * i))
+abbrev invariant-loop-i : tie.invariant-loop-i
+invariant-loop-i part m v₀ i₀ v i = (i ≤ m) × (v ≡ bits_at part 0 (8 * i))
 
-abbrev decreases-loop : tie.decreases-loop
-decreases-loop part m v₀ i₀ v i = m - i
+abbrev decreases-loop-i : tie.decreases-loop-i
+decreases-loop-i part m v₀ i₀ v i = m - i
 
 -- there is room for one byte more
-small : (c : tie.In-loop invariant-loop decreases-loop) → c.before.loop.v < 72057594037927936
+small : (c : tie.In-loop-i invariant-loop-i decreases-loop-i) → c.loop-i.v < 72057594037927936
 small c =
-    let l = c.before in
-    omega (arith, bits_below l.before.before.args.part.now 0 (8 * l.loop.i) 56 (omega arith))
+    omega (arith, bits_below c.args.part.now 0 (8 * c.loop-i.i) 56 (omega arith))
 
-loop-holds : tie.Need-loop-init invariant-loop decreases-loop
+loop-i-init : tie.Need-loop-i-init invariant-loop-i decreases-loop-i
 unfolding bits_at
-loop-holds c = search rules
+loop-i-init c = search rules
 
-mul-v : tie.Need-overflow-mul-v invariant-loop decreases-loop
-mul-v c = omega (arith, small c)
+overflow_mul-v : tie.Need-overflow_mul-v invariant-loop-i decreases-loop-i
+overflow_mul-v c = omega (arith, small c)
 
-shared-slice-read-wide : tie.Need-shared-slice-read-wide invariant-loop decreases-loop
-shared-slice-read-wide c = search rules
+bounds-part-i : tie.Need-bounds-part-i invariant-loop-i decreases-loop-i
+bounds-part-i c = search rules
 
-wide-requires : tie.Need-wide-requires invariant-loop decreases-loop
+wide-requires : tie.Need-wide-requires invariant-loop-i decreases-loop-i
 wide-requires c κs = search rules
 
-add-v : tie.Need-overflow-add-v invariant-loop decreases-loop
-add-v c =
-    let t = c.before.before in
-    omega (arith, small t, c.before.shared-slice-known2.given t.before.loop.i)
+overflow_add-v : tie.Need-overflow_add-v invariant-loop-i decreases-loop-i
+overflow_add-v c =
+    omega (arith, small c.before.before, c.shared_slice_known-in-loop-i-1.given c.loop-i.i)
 
-add-i : tie.Need-overflow-add-i invariant-loop decreases-loop
-add-i c = search rules
+overflow_add-i : tie.Need-overflow_add-i invariant-loop-i decreases-loop-i
+overflow_add-i c = search rules
 
-loop-less : tie.Need-loop-smaller invariant-loop decreases-loop
-loop-less c = search rules
+loop-i-smaller : tie.Need-loop-i-smaller invariant-loop-i decreases-loop-i
+loop-i-smaller c = search rules
 
-loop-again : tie.Need-loop-preserved invariant-loop decreases-loop
-loop-again c =
-    let l = c.before.before.before in
-    let k = c.before.shared-slice-known2.given l.loop.i in (
+loop-i-preserved : tie.Need-loop-i-preserved invariant-loop-i decreases-loop-i
+loop-i-preserved c =
+    let k = c.shared_slice_known-in-loop-i-1.given c.loop-i.i in (
       omega arith,
-      omega (arith, bytes_more l.before.before.args.part.now l.loop.i k.fits),
+      omega (arith, bytes_more c.args.part.now c.loop-i.i k.fits),
     )
 
-returns : tie.Need-returns invariant-loop decreases-loop
+returns : tie.Need-returns invariant-loop-i decreases-loop-i
 returns c =
-    let l = c.before in
-    let e : l.loop.i ≡ l.before.before.args.m = omega arith in
-    l.loop.invariant.1 ∙ ap (λ (i : ℕ). bits_at l.before.before.args.part.now 0 (8 * i)) e
+    let e : c.loop-i.i ≡ c.args.m = omega arith in
+    c.loop-i.invariant.1 ∙ ap (λ (i : ℕ). bits_at c.args.part.now 0 (8 * i)) e
 
-pub gather-spec : {M : Type 1} → statement M
-gather-spec =
+pub gather_spec : {M : Type 1} → statement M
+gather_spec =
     tie.close
     (tie.spec
-    invariant-loop
-    decreases-loop
-    loop-holds
-    mul-v
-    shared-slice-read-wide
+    invariant-loop-i
+    decreases-loop-i
+    loop-i-init
+    overflow_mul-v
+    bounds-part-i
     wide-requires
-    add-v
-    add-i
-    loop-less
-    loop-again
+    overflow_add-v
+    overflow_add-i
+    loop-i-smaller
+    loop-i-preserved
     returns)

@@ -9,20 +9,26 @@ use Rattle.bits.proofs.within.Tie as tie
 word-requires : tie.Need-word-requires
 word-requires c κs = search rules
 
-shl-result : tie.Need-overflow-shl-result
-shl-result c = search rules
+overflow_shl-result : tie.Need-overflow_shl-result
+overflow_shl-result c = search rules
 
-sub-result : tie.Need-overflow-sub-result
-sub-result c = search rules
+overflow_sub-result : tie.Need-overflow_sub-result
+overflow_sub-result c = search rules
 
-shr-result : tie.Need-overflow-shr-result
-shr-result c = search rules
+overflow_shr-result : tie.Need-overflow_shr-result
+overflow_shr-result c = search rules
 
 returns : tie.Need-returns
 returns c =
-    let s = c.before.before in
-    ap (λ (v : ℕ). v * 2 ^ s.args.shift % 2 ^ 64 / 2 ^ (64 - s.args.n)) c.word.ensures
-    ∙ shifts_within s.args.part.now s.args.shift s.args.n s.requires.1
+    ap (λ (v : ℕ). v * 2 ^ c.args.shift % 2 ^ 64 / 2 ^ (64 - c.args.n)) c.word.ensures
+    ∙ shifts_within c.args.part.now c.args.shift c.args.n c.requires.1
 
-pub within-spec : {M : Type 1} → statement M
-within-spec = tie.close (tie.spec word-requires shl-result sub-result shr-result returns)
+pub within_spec : {M : Type 1} → statement M
+within_spec =
+    tie.close
+    (tie.spec
+    word-requires
+    overflow_shl-result
+    overflow_sub-result
+    overflow_shr-result
+    returns)

@@ -10,19 +10,25 @@ use Rattle.bits.proofs.word_end.Tie as tie
 gather-requires : tie.Need-gather-requires
 gather-requires c κs = search rules
 
-mul-result : tie.Need-overflow-mul-result
-mul-result c = search rules
+overflow_mul-result : tie.Need-overflow_mul-result
+overflow_mul-result c = search rules
 
-sub-result : tie.Need-overflow-sub-result
-sub-result c = search rules
+overflow_sub-result : tie.Need-overflow_sub-result
+overflow_sub-result c = search rules
 
-shl-result : tie.Need-overflow-shl-result
-shl-result c = search rules
+overflow_shl-result-2 : tie.Need-overflow_shl-result-2
+overflow_shl-result-2 c = search rules
 
 returns : tie.Need-returns
 returns c =
-    let s = c.before.before in
-    ap (λ (v : ℕ). v * 2 ^ 1 % 2 ^ 64 * 2 ^ (63 - 8 * length s.args.part.now) % 2 ^ 64) c.gather.ensures ∙ word_short s.args.part.now s.requires
+    ap (λ (v : ℕ). v * 2 ^ 1 % 2 ^ 64 * 2 ^ (63 - 8 * length c.args.part.now) % 2 ^ 64) c.gather.ensures ∙ word_short c.args.part.now c.requires
 
-pub word-end-spec : {M : Type 1} → statement M
-word-end-spec = tie.close (tie.spec gather-requires mul-result sub-result shl-result returns)
+pub word_end_spec : {M : Type 1} → statement M
+word_end_spec =
+    tie.close
+    (tie.spec
+    gather-requires
+    overflow_mul-result
+    overflow_sub-result
+    overflow_shl-result-2
+    returns)

@@ -17,86 +17,84 @@ next : (c : tie.Start) → Opening c.args.image.now (index_of c.args.image.now).
 next c = opening c.args.image.now (index_of c.args.image.now).docs c.args.c c.requires.0 c.requires.1
 
 -- the head is the one at the block's end
-head : (c : tie.After-read-head) → let a = c.before.before.before.before.before.args in
-    head_fields c.read_head.result ≡ head_at a.image.now (block_end a.c)
+head : (c : tie.After-read_head-head) → let a = c.args in
+    head_fields c.read_head-head.result ≡ head_at a.image.now (block_end a.c)
 head c =
-    let a = c.before.before.before.before.before.args in
-    c.read_head.ensures ∙ head_from a.image.now (block_end a.c)
+    let a = c.args in
+    c.read_head-head.ensures ∙ head_from a.image.now (block_end a.c)
 
-bounds : (c : tie.After-read-head) → HeadBounds (head_fields c.read_head.result)
+bounds : (c : tie.After-read_head-head) → HeadBounds (head_fields c.read_head-head.result)
 bounds c =
-    let a = c.before.before.before.before.before.args in
-    head_bounds a.image.now (block_end a.c) (head_fields c.read_head.result) (head c)
+    let a = c.args in
+    head_bounds a.image.now (block_end a.c) (head_fields c.read_head-head.result) (head c)
 
-mul_at : tie.Need-overflow-mul-at
-mul_at c = omega arith
+overflow_mul-at : tie.Need-overflow_mul-at
+overflow_mul-at c = omega arith
 
-add_at : tie.Need-overflow-add-at
-add_at c = omega arith
+overflow_add-at : tie.Need-overflow_add-at
+overflow_add-at c = omega arith
 
-cast-byte : tie.Need-overflow-cast-byte
-cast-byte c = omega arith
+overflow_cast-byte : tie.Need-overflow_cast-byte
+overflow_cast-byte c = omega arith
 
-sub-read-head : tie.Need-overflow-sub-read-head
-sub-read-head c = omega (arith, (next c.before.before.before).head)
+slice_bounds-read_head-count : tie.Need-slice_bounds-read_head-count
+slice_bounds-read_head-count c = omega (arith, (next c.before.before.before).head)
 
-part-read-head-start : tie.Need-slice-bounds-read-head-start
-part-read-head-start c = omega (arith, (next c.before.before.before).head)
+slice_bounds-read_head-start : tie.Need-slice_bounds-read_head-start
+slice_bounds-read_head-start c = omega (arith, (next c.before.before.before).head)
 
-part-read-head-end : tie.Need-slice-bounds-read-head-end
-part-read-head-end c = omega arith
+slice_bounds-read_head-end : tie.Need-slice_bounds-read_head-end
+slice_bounds-read_head-end c = omega arith
 
-cast-read-head : tie.Need-overflow-cast-read-head
-cast-read-head c = omega arith
+overflow_cast-at : tie.Need-overflow_cast-at
+overflow_cast-at c = omega arith
 
-read-head-requires : tie.Need-read-head-requires
-read-head-requires c κs =
-    let s = c.before.before.before.before in
-    omega (arith, (next s).head, from_length (block_end s.args.c / 8) s.args.image.now)
+read_head-head-requires : tie.Need-read_head-head-requires
+read_head-head-requires c κs =
+    omega (arith, (next c.before.before.before.before).head, from_length (block_end c.args.c / 8) c.args.image.now)
 
-cast-n : tie.Need-overflow-cast-n
-cast-n c = omega (arith, (bounds c.before).few)
+overflow_cast-n : tie.Need-overflow_cast-n
+overflow_cast-n c = omega (arith, (bounds c.before).few)
 
-add-t7 : tie.Need-overflow-add-t7
-add-t7 c = omega (arith, (next c.before.before.before.before.before.before).head)
+overflow_add-result : tie.Need-overflow_add-result
+overflow_add-result c = omega (arith, (next c.before.before.before.before.before.before).head)
 
-sub-t13 : tie.Need-overflow-sub-t13
-sub-t13 c = omega (arith, (next c.before.before.before.before.before.before.before).enough, ap (λ (h : Head). h.count) (head c.before.before))
+overflow_sub-result : tie.Need-overflow_sub-result
+overflow_sub-result c = omega (arith, (next c.before.before.before.before.before.before.before).enough, ap (λ (h : Head). h.count) (head c.before.before))
 
-cast-t14 : tie.Need-overflow-cast-t14
-cast-t14 c = omega (arith, (bounds c.before.before.before).narrow)
+overflow_cast-result : tie.Need-overflow_cast-result
+overflow_cast-result c = omega (arith, (bounds c.before.before.before).narrow)
 
-add-t15 : tie.Need-overflow-add-t15
-add-t15 c = omega (arith, (bounds c.before.before.before).narrow)
+overflow_add-result-2 : tie.Need-overflow_add-result-2
+overflow_add-result-2 c = omega (arith, (bounds c.before.before.before).narrow)
 
-cast-t16 : tie.Need-overflow-cast-t16
-cast-t16 c = omega (arith, (bounds c.before.before.before.before).last)
+overflow_cast-result-2 : tie.Need-overflow_cast-result-2
+overflow_cast-result-2 c = omega (arith, (bounds c.before.before.before.before).last)
 
-add-t17 : tie.Need-overflow-add-t17
-add-t17 c = omega (arith, (bounds c.before.before.before.before).last)
+overflow_add-result-3 : tie.Need-overflow_add-result-3
+overflow_add-result-3 c = omega (arith, (bounds c.before.before.before.before).last)
 
 returns : tie.Need-returns
 returns c =
-    let h = c.before.before.before.before in
-    ap (opened_by h.before.before.before.before.before.args.c) (head h)
+    ap (opened_by c.args.c) (head c.before.before.before.before)
 
-pub open-block-spec : {M : Type 1} → statement M
-open-block-spec =
+pub open_block_spec : {M : Type 1} → statement M
+open_block_spec =
     tie.close
     (tie.spec
-    mul_at
-    add_at
-    cast-byte
-    sub-read-head
-    part-read-head-start
-    part-read-head-end
-    cast-read-head
-    read-head-requires
-    cast-n
-    add-t7
-    sub-t13
-    cast-t14
-    add-t15
-    cast-t16
-    add-t17
+    overflow_mul-at
+    overflow_add-at
+    overflow_cast-byte
+    slice_bounds-read_head-count
+    slice_bounds-read_head-start
+    slice_bounds-read_head-end
+    overflow_cast-at
+    read_head-head-requires
+    overflow_cast-n
+    overflow_add-result
+    overflow_sub-result
+    overflow_cast-result
+    overflow_add-result-2
+    overflow_cast-result-2
+    overflow_add-result-3
     returns)

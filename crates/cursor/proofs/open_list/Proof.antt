@@ -11,49 +11,50 @@ use Rattle.cursor.specs.ListLaws.{term_is, entry_room, start_ready, start_ahead}
 use Rattle.cursor.proofs.open_list.Statement.{statement}
 use Rattle.cursor.proofs.open_list.Tie as tie
 
-bounds : (c : tie.After-read-entry) → EntryBounds (entry_fields c.read-entry.result)
+bounds : (c : tie.After-read_entry-entry) → EntryBounds (entry_fields c.read_entry-entry.result)
 bounds c =
-    let a = c.before.before.args in
-    entry_bounds a.image.now a.term (entry_fields c.read-entry.result) c.read-entry.ensures
+    let a = c.args in
+    entry_bounds a.image.now a.term (entry_fields c.read_entry-entry.result) c.read_entry-entry.ensures
 
-start : (c : tie.After-read-entry) → let a = c.before.before.args in start_by (entry_fields c.read-entry.result) ≡ start_at a.image.now a.term
-start c = ap start_by c.read-entry.ensures
+start : (c : tie.After-read_entry-entry) → let a = c.args in start_by (entry_fields c.read_entry-entry.result) ≡ start_at a.image.now a.term
+start c = ap start_by c.read_entry-entry.ensures
 
-read-entry-requires : tie.Need-read-entry-requires
-read-entry-requires c κs =
-    let s = c.before in
-    omega (arith, entry_room s.args.image.now s.requires.0 s.args.term s.requires.1)
+read_entry-entry-requires : tie.Need-read_entry-entry-requires
+read_entry-entry-requires c κs =
+    omega (arith, entry_room c.args.image.now c.requires.0 c.args.term c.requires.1)
 
-cast-count : tie.Need-overflow-cast-count
-cast-count c = omega (arith, (bounds c.before).count)
+overflow_cast-count : tie.Need-overflow_cast-count
+overflow_cast-count c = omega (arith, (bounds c.before).count)
 
-cast-t8 : tie.Need-overflow-cast-t8
-cast-t8 c = omega (arith, (bounds c.before.before).first)
+overflow_cast-start : tie.Need-overflow_cast-start
+overflow_cast-start c = omega (arith, (bounds c.before.before).first)
 
-enter-block-requires : tie.Need-enter-block-requires
-enter-block-requires c κs =
-    let e = c.before.before in
-    let s = e.before.before in
-    (rw (← (start e)) at (start_ready s.args.image.now s.requires.0 s.args.term s.requires.1), refl)
+enter_block-c-requires : tie.Need-enter_block-c-requires
+enter_block-c-requires c κs =
+    (rw (← (start c.before.before)) at (start_ready c.args.image.now c.requires.0 c.args.term c.requires.1), refl)
 
-cast-t8-2 : tie.Need-overflow-cast-t8-2
-cast-t8-2 c = omega (arith, (bounds c.before.before.before.before).largest)
+overflow_cast-result : tie.Need-overflow_cast-result
+overflow_cast-result c = omega (arith, (bounds c.before.before.before.before).largest)
 
 returns : tie.Need-returns
 returns c =
-    let e = c.before.before.before.before in
-    let s = e.before.before in
-    let image = s.args.image.now in
-    let list = c.before.enter-block.ensures in
-    let t = term_is image s.requires.0 s.args.term s.requires.1 in
-    let fields = e.read-entry.ensures in (
+    let image = c.args.image.now in
+    let list = c.enter_block-c.ensures in
+    let t = term_is image c.requires.0 c.args.term c.requires.1 in
+    let fields = c.read_entry-entry.ensures in (
       list.0,
-      list.1 ∙ rw (← (start e)) at (start_ahead image s.requires.0 s.args.term s.requires.1),
+      list.1 ∙ rw (← (start c.before.before.before.before)) at (start_ahead image c.requires.0 c.args.term c.requires.1),
       ap (λ (h : Entry). h.count) fields ∙ sym t.count,
       ap (λ (h : Entry). h.largest) fields ∙ sym t.largest,
     )
 
-pub open-list-spec : {M : Type 1} → statement M
-open-list-spec =
+pub open_list_spec : {M : Type 1} → statement M
+open_list_spec =
     tie.close
-    (tie.spec read-entry-requires cast-count cast-t8 enter-block-requires cast-t8-2 returns)
+    (tie.spec
+    read_entry-entry-requires
+    overflow_cast-count
+    overflow_cast-start
+    enter_block-c-requires
+    overflow_cast-result
+    returns)

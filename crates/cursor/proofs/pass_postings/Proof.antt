@@ -10,47 +10,49 @@ use Rattle.cursor.specs.declared.Cursor.{Cursor}
 use Rattle.cursor.proofs.pass_postings.Statement.{statement}
 use Rattle.cursor.proofs.pass_postings.Tie as tie
 
-abbrev invariant-loop : tie.invariant-loop
-invariant-loop image past from c =
+abbrev invariant-loop-c : tie.invariant-loop-c
+invariant-loop-c image past from c =
     Sound image (index_of image).docs c × (past ≤ c.last) × (not_below (past - 1) (left_of image c) ≡ not_below (past - 1) (left_of image from))
 
-abbrev decreases-loop : tie.decreases-loop
-decreases-loop image past from c = c.rest
+abbrev decreases-loop-c : tie.decreases-loop-c
+decreases-loop-c image past from c = c.rest
 
-loop-holds : tie.Need-loop-init invariant-loop decreases-loop
-loop-holds c = (c.before.requires.0, c.before.requires.3, refl)
+loop-c-init : tie.Need-loop-c-init invariant-loop-c decreases-loop-c
+loop-c-init c = (c.requires.0, c.requires.3, refl)
 
-some-rest : (c : tie.Then1 invariant-loop decreases-loop) → 0 < c.before.before.loop.c.rest
+some-rest : (c : tie.In-loop-c invariant-loop-c decreases-loop-c) → 0 < c.loop-c.c.rest
 some-rest c =
-    let l = c.before.before in
-    let image = l.before.before.args.image.now in
-    block_on image (index_of image).docs l.loop.c l.loop.invariant.0.ready (omega arith)
+    let image = c.args.image.now in
+    block_on image (index_of image).docs c.loop-c.c c.loop-c.invariant.0.ready (omega arith)
 
-take-posting-requires : tie.Need-take-posting-requires invariant-loop decreases-loop
-take-posting-requires c κs = (c.before.before.loop.invariant.0.ready, some-rest c)
+take_posting-c-requires : tie.Need-take_posting-c-requires invariant-loop-c decreases-loop-c
+take_posting-c-requires c κs = (c.loop-c.invariant.0.ready, some-rest c)
 
-loop-less : tie.Need-loop-smaller invariant-loop decreases-loop
-loop-less c = omega (arith, ap (λ (d : Cursor). d.rest) c.take-posting.ensures, some-rest c.before)
+loop-c-smaller : tie.Need-loop-c-smaller invariant-loop-c decreases-loop-c
+loop-c-smaller c = omega (arith, ap (λ (d : Cursor). d.rest) c.take_posting-c.ensures, some-rest c.before)
 
-loop-again : tie.Need-loop-preserved invariant-loop decreases-loop
-loop-again c =
-    let l = c.before.before.before in
-    let s = l.before.before in
-    let image = s.args.image.now in
-    let t = taking image (index_of image).docs l.loop.c l.loop.invariant.0.ready (some-rest c.before) in
-    let d = s.args.past - 1 in
-    let below = seek_on image (index_of image).docs l.loop.c l.loop.invariant.0 d (omega arith) (omega arith) in
-    rw c.take-posting.ensures (t.sound, l.loop.invariant.1, ap (not_below d) t.left ∙ sym below ∙ l.loop.invariant.2)
+loop-c-preserved : tie.Need-loop-c-preserved invariant-loop-c decreases-loop-c
+loop-c-preserved c =
+    let image = c.args.image.now in
+    let t = taking image (index_of image).docs c.loop-c.c c.loop-c.invariant.0.ready (some-rest c.before) in
+    let d = c.args.past - 1 in
+    let below = seek_on image (index_of image).docs c.loop-c.c c.loop-c.invariant.0 d (omega arith) (omega arith) in
+    rw c.take_posting-c.ensures (t.sound, c.loop-c.invariant.1, ap (not_below d) t.left ∙ sym below ∙ c.loop-c.invariant.2)
 
-returns : tie.Need-returns invariant-loop decreases-loop
+returns : tie.Need-returns invariant-loop-c decreases-loop-c
 returns c =
-    let l = c.before.before in
-    let s = l.before.before in
-    let image = s.args.image.now in
-    let there = seek_end image (index_of image).docs l.loop.c l.loop.invariant.0 (s.args.past - 1) (omega arith) in
-    (l.loop.invariant.0, sym there ∙ l.loop.invariant.2)
+    let image = c.args.image.now in
+    let there = seek_end image (index_of image).docs c.loop-c.c c.loop-c.invariant.0 (c.args.past - 1) (omega arith) in
+    (c.loop-c.invariant.0, sym there ∙ c.loop-c.invariant.2)
 
-pub pass-postings-spec : {M : Type 1} → statement M
-pass-postings-spec =
+pub pass_postings_spec : {M : Type 1} → statement M
+pass_postings_spec =
     tie.close
-    (tie.spec invariant-loop decreases-loop loop-holds take-posting-requires loop-less loop-again returns)
+    (tie.spec
+    invariant-loop-c
+    decreases-loop-c
+    loop-c-init
+    take_posting-c-requires
+    loop-c-smaller
+    loop-c-preserved
+    returns)

@@ -4,14 +4,19 @@ use borrow.Author.Rules.{rules}
 use Rattle.cursor.proofs.seek.Statement.{statement}
 use Rattle.cursor.proofs.seek.Tie as tie
 
-pass-blocks-requires : tie.Need-pass-blocks-requires
-pass-blocks-requires c κs = search rules
+pass_blocks-b-requires : tie.Need-pass_blocks-b-requires
+pass_blocks-b-requires c κs = search rules
 
-pass-postings-requires : tie.Need-pass-postings-requires
-pass-postings-requires c κs = search rules
+pass_postings-requires : tie.Need-pass_postings-requires
+pass_postings-requires c κs = search rules
 
 returns : tie.Need-returns
-returns c = (c.pass-postings.ensures.0, c.pass-postings.ensures.1 ∙ c.before.pass-blocks.ensures.2)
+returns c = (c.pass_postings.ensures.0, c.pass_postings.ensures.1 ∙ c.pass_blocks-b.ensures.2)
 
-pub seek-spec : {M : Type 1} → statement M
-seek-spec = tie.close (tie.spec pass-blocks-requires pass-postings-requires returns)
+pub seek_spec : {M : Type 1} → statement M
+seek_spec =
+    tie.close
+    (tie.spec
+    pass_blocks-b-requires
+    pass_postings-requires
+    returns)

@@ -4,13 +4,16 @@ use Rattle.cursor.specs.CursorLaws.{ahead_left}
 use Rattle.cursor.proofs.turn_block.Statement.{statement}
 use Rattle.cursor.proofs.turn_block.Tie as tie
 
-enter-block-requires : tie.Need-enter-block-requires
-enter-block-requires c κs = (c.before.requires.0.ready, c.before.requires.1)
+enter_block-requires : tie.Need-enter_block-requires
+enter_block-requires c κs = (c.requires.0.ready, c.requires.1)
 
 returns : tie.Need-returns
 returns c =
-    let s = c.before.before in
-    (c.enter-block.ensures.0, c.enter-block.ensures.1 ∙ ahead_left s.args.image.now s.args.c s.requires.2)
+    (c.enter_block.ensures.0, c.enter_block.ensures.1 ∙ ahead_left c.args.image.now c.args.c c.requires.2)
 
-pub turn-block-spec : {M : Type 1} → statement M
-turn-block-spec = tie.close (tie.spec enter-block-requires returns)
+pub turn_block_spec : {M : Type 1} → statement M
+turn_block_spec =
+    tie.close
+    (tie.spec
+    enter_block-requires
+    returns)

@@ -15,81 +15,80 @@ use Rattle.finder.proofs.answer.Statement.{statement}
 use Rattle.finder.proofs.answer.Tie as tie
 
 -- the image is accepted, with the sizes that judging gave
-accepted : (c : tie.After-index2) →
-    let s = c.before.before.before.before.before.before.args.image.now in
-    let v = c.index2.given.0 in
-    Accepted s × (length (index_of s).terms ≡ v.0) × ((index_of s).docs ≡ v.1.0)
-accepted c = verdict_accepted _ _ _ (ap image.verdict (sym c.index2.given.1) ∙ c.before.before.judge.ensures)
+accepted : (c : tie.In-Accepted) →
+    let s = c.args.image.now in
+    Accepted s × (length (index_of s).terms ≡ c.in-Accepted.terms) × ((index_of s).docs ≡ c.in-Accepted.docs)
+accepted c = verdict_accepted _ _ _ (ap image.verdict (sym c.in-Accepted.is) ∙ c.judge-index.ensures)
 
 -- what the sheet and the room say
-roomed-is : (c : tie.After-room) →
-    let a = c.before.before.before.before.before.before.before.before.before.args in
-    sheet.verdict c.room.result ≡ roomed (needed_of (sheet_of a.sheet.now c.before.before.before.index2.given.0.0)) (length a.row.now)
+roomed-is : (c : tie.After-room-asked) →
+    let a = c.args in
+    sheet.verdict c.room-asked.result ≡ roomed (needed_of (sheet_of a.sheet.now c.in-Accepted.terms)) (length a.row.now)
 roomed-is c =
-    let a = c.before.before.before.before.before.before.before.before.before.args in
-    c.room.ensures ∙ ap (λ (j : Judged ℕ). roomed j (length a.row.now)) c.before.judge2.ensures
+    let a = c.args in
+    c.room-asked.ensures ∙ ap (λ (j : Judged ℕ). roomed j (length a.row.now)) c.judge.ensures
+
+judge-index-requires : tie.Need-judge-index-requires
+judge-index-requires c κs = search rules
+
+enum_known-index : tie.Need-enum_known-index
+enum_known-index c = search rules
+
+enum_known-index-in-Accepted-1 : tie.Need-enum_known-index-in-Accepted-1
+enum_known-index-in-Accepted-1 c = search rules
 
 judge-requires : tie.Need-judge-requires
 judge-requires c κs = search rules
 
-enum-known-index : tie.Need-enum-known-index
-enum-known-index c = search rules
+room-asked-requires : tie.Need-room-asked-requires
+room-asked-requires c κs = search rules
 
-enum-known-index-2 : tie.Need-enum-known-index-2
-enum-known-index-2 c = search rules
+enum_known-asked : tie.Need-enum_known-asked
+enum_known-asked c = search rules
 
-judge-requires-2 : tie.Need-judge-requires-2
-judge-requires-2 c κs = search rules
-
-room-requires : tie.Need-room-requires
-room-requires c κs = search rules
-
-enum-known-asked : tie.Need-enum-known-asked
-enum-known-asked c = search rules
-
-enum-known-asked-2 : tie.Need-enum-known-asked-2
-enum-known-asked-2 c = search rules
+enum_known-asked-in-Accepted-asked : tie.Need-enum_known-asked-in-Accepted-asked
+enum_known-asked-in-Accepted-asked c = search rules
 
 fill-requires : tie.Need-fill-requires
 fill-requires c κs =
-    let x = accepted c.before.before.before.before.before.before.before in
-    let said = roomed-is c.before.before.before.before in
-    sheet_fills _ _ _ x.0 _ _ x.1 (sym x.2) _ (ap sheet.verdict (sym c.before.before.asked2.given.1) ∙ said)
+    let x = accepted c.before.before.before.before in
+    let said = roomed-is c.before.before in
+    sheet_fills _ _ _ x.0 _ _ x.1 (sym x.2) _ (ap sheet.verdict (sym c.in-Accepted-asked.is) ∙ said)
 
-returns : tie.Need-returns
-returns c =
-    let said = ap image.verdict (sym c.before.index.given.1) ∙ c.before.before.before.judge.ensures in
+returns-in-Refused : tie.Need-returns-in-Refused
+returns-in-Refused c =
+    let said = ap image.verdict (sym c.in-Refused.is) ∙ c.judge-index.ensures in
     image_refused _ _ _ _ _ (verdict_refused _ _ _ said)
 
-returns-2 : tie.Need-returns-2
-returns-2 c =
-    let x = accepted c.before.before.before.before.before.before in
-    let said = roomed-is c.before.before.before in
-    sheet_refused _ _ _ x.0 _ _ x.1 (sym x.2) _ _ (ap sheet.verdict (sym c.before.asked.given.1) ∙ said)
+returns-in-Refused-asked : tie.Need-returns-in-Refused-asked
+returns-in-Refused-asked c =
+    let x = accepted c.before.before.before in
+    let said = roomed-is c.before in
+    sheet_refused _ _ _ x.0 _ _ x.1 (sym x.2) _ _ (ap sheet.verdict (sym c.in-Refused-asked.is) ∙ said)
 
-same_length : tie.Need-same-length
-same_length c = search rules
+shape_of-row : tie.Need-shape_of-row
+shape_of-row c = search rules
 
-returns-3 : tie.Need-returns-3
-returns-3 c =
-    let x = accepted c.before.before.before.before.before.before.before.before.before.before in
-    let said = roomed-is c.before.before.before.before.before.before.before in
-    let count = ap sheet.verdict (sym c.before.before.before.before.before.asked2.given.1) ∙ said in
-    filled_done _ _ _ x.0 _ _ x.1 (sym x.2) _ count _ c.before.before.fill.ensures
+returns-in-Accepted-asked : tie.Need-returns-in-Accepted-asked
+returns-in-Accepted-asked c =
+    let x = accepted c.before.before.before.before.before.before.before in
+    let said = roomed-is c.before.before.before.before.before in
+    let count = ap sheet.verdict (sym c.in-Accepted-asked.is) ∙ said in
+    filled_done _ _ _ x.0 _ _ x.1 (sym x.2) _ count _ c.fill.ensures
 
-pub answer-spec : {M : Type 1} → statement M
-answer-spec =
+pub answer_spec : {M : Type 1} → statement M
+answer_spec =
     tie.close
     (tie.spec
+    judge-index-requires
+    enum_known-index
+    enum_known-index-in-Accepted-1
     judge-requires
-    enum-known-index
-    enum-known-index-2
-    judge-requires-2
-    room-requires
-    enum-known-asked
-    enum-known-asked-2
+    room-asked-requires
+    enum_known-asked
+    enum_known-asked-in-Accepted-asked
     fill-requires
-    returns
-    returns-2
-    same_length
-    returns-3)
+    returns-in-Refused
+    returns-in-Refused-asked
+    shape_of-row
+    returns-in-Accepted-asked)

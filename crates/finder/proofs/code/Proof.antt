@@ -11,41 +11,41 @@ use Rattle.finder.proofs.code.Statement.{statement}
 use Rattle.finder.proofs.code.Tie as tie
 
 -- a refusal's numbers
-small : (c : tie.After-said2) → Within 1 15 c.said2.given.0.0 × (c.said2.given.0.1.0 ≤ 8384)
+small : (c : tie.In-Refused) → Within 1 15 c.in-Refused.number × (c.in-Refused.place ≤ 8384)
 unfolding says
-small c = rw c.said2.given.1 at c.before.before.requires
+small c = rw c.in-Refused.is at c.requires
 
-enum-known-said : tie.Need-enum-known-said
-enum-known-said c = search rules
+enum_known-said : tie.Need-enum_known-said
+enum_known-said c = search rules
 
-enum-known-said-2 : tie.Need-enum-known-said-2
-enum-known-said-2 c = search rules
+enum_known-said-in-Refused-1 : tie.Need-enum_known-said-in-Refused-1
+enum_known-said-in-Refused-1 c = search rules
 
-cast-result : tie.Need-overflow-cast-result
-cast-result c = search rules
+overflow_cast-result : tie.Need-overflow_cast-result
+overflow_cast-result c = search rules
 
-mul-result : tie.Need-overflow-mul-result
-mul-result c = omega (arith, small c.before)
+overflow_mul-result : tie.Need-overflow_mul-result
+overflow_mul-result c = omega (arith, small c)
 
-add-result : tie.Need-overflow-add-result
-add-result c = omega (arith, small c.before)
+overflow_add-result : tie.Need-overflow_add-result
+overflow_add-result c = omega (arith, small c)
 
-returns : tie.Need-returns
+returns-in-Done : tie.Need-returns-in-Done
 unfolding says code_of
-returns c = sym (ap (λ (o : Outcome). code_of (says o)) c.before.said.given.1)
+returns-in-Done c = sym (ap (λ (o : Outcome). code_of (says o)) c.in-Done.is)
 
-returns-2 : tie.Need-returns-2
+returns-in-Refused : tie.Need-returns-in-Refused
 unfolding says code_of
-returns-2 c = sym (ap (λ (o : Outcome). code_of (says o)) c.before.said2.given.1)
+returns-in-Refused c = sym (ap (λ (o : Outcome). code_of (says o)) c.in-Refused.is)
 
-pub code-spec : {M : Type 1} → statement M
-code-spec =
+pub code_spec : {M : Type 1} → statement M
+code_spec =
     tie.close
     (tie.spec
-    enum-known-said
-    enum-known-said-2
-    cast-result
-    mul-result
-    add-result
-    returns
-    returns-2)
+    enum_known-said
+    enum_known-said-in-Refused-1
+    overflow_cast-result
+    overflow_mul-result
+    overflow_add-result
+    returns-in-Done
+    returns-in-Refused)

@@ -10,110 +10,109 @@ use borrow.Author.Rules.{rules}
 use Rattle.finder.proofs.fill.Statement.{statement}
 use Rattle.finder.proofs.fill.Tie as tie
 
-abbrev invariant-loop : tie.invariant-loop
-invariant-loop image sheet docs row₀ at₀ start₀ row at start = (f : Fills image sheet docs row₀) → Going image sheet f.queries row₀ row at start
+abbrev invariant-loop-at : tie.invariant-loop-at
+invariant-loop-at image sheet docs row₀ at₀ start₀ row at start = (f : Fills image sheet docs row₀) → Going image sheet f.queries row₀ row at start
 
-abbrev decreases-loop : tie.decreases-loop
-decreases-loop image sheet docs row₀ at₀ start₀ row at start = length sheet - at
+abbrev decreases-loop-at : tie.decreases-loop-at
+decreases-loop-at image sheet docs row₀ at₀ start₀ row at start = length sheet - at
 
 -- what is known of a record that was read, and of its stretch
-module _ (c : tie.After-read invariant-loop decreases-loop) where
-  posed : let a = c.before.before.before.before.before.before.args in Posed a.image.now a.sheet.now c.read.result a.docs
+module _ (c : tie.After-read-query invariant-loop-at decreases-loop-at) where
+  posed : let a = c.args in Posed a.image.now a.sheet.now c.read-query.result a.docs
   posed =
-      let f = c.before.before.before.before.before.before.requires in
-      going_posed f (c.before.before.loop.invariant f) c.before.loop-test.true c.read.result c.read.ensures
+      let f = c.requires in
+      going_posed f (c.loop-at.invariant f) c.loop-at-test.true c.read-query.result c.read-query.ensures
 
-  room : c.before.before.loop.start + (3 + 2 * c.read.result.k) ≤ length c.before.before.before.before.before.before.args.row.now
+  room : c.loop-at.start + (3 + 2 * c.read-query.result.k) ≤ length c.args.row.now
   room =
-      let f = c.before.before.before.before.before.before.requires in
-      going_room f (c.before.before.loop.invariant f) c.before.loop-test.true c.read.result c.read.ensures
+      let f = c.requires in
+      going_room f (c.loop-at.invariant f) c.loop-at-test.true c.read-query.result c.read-query.ensures
 
 -- the answer row keeps its length
-kept : (c : tie.At-loop invariant-loop decreases-loop) → length c.loop.row ≡ length c.before.before.before.before.args.row.now
+kept : (c : tie.At-loop-at invariant-loop-at decreases-loop-at) → length c.loop-at.row ≡ length c.args.row.now
 kept c =
-    let f = c.before.before.before.before.requires in
-    going_length f (c.loop.invariant f)
+    let f = c.requires in
+    going_length f (c.loop-at.invariant f)
 
-loop-holds : tie.Need-loop-init invariant-loop decreases-loop
-loop-holds c = λ f. going_first f
+loop-at-init : tie.Need-loop-at-init invariant-loop-at decreases-loop-at
+loop-at-init c = λ f. going_first f
 
-read-requires : tie.Need-read-requires invariant-loop decreases-loop
-read-requires c κs =
-    let f = c.before.before.before.before.before.requires in
-    going_readable f (c.before.loop.invariant f) c.loop-test.true
+read-query-requires : tie.Need-read-query-requires invariant-loop-at decreases-loop-at
+read-query-requires c κs =
+    let f = c.requires in
+    going_readable f (c.loop-at.invariant f) c.loop-at-test.true
 
-add-end : tie.Need-overflow-add-end invariant-loop decreases-loop
-add-end c = omega (arith, room c)
+overflow_add-end : tie.Need-overflow_add-end invariant-loop-at decreases-loop-at
+overflow_add-end c = omega (arith, room c)
 
-mul-end : tie.Need-overflow-mul-end invariant-loop decreases-loop
-mul-end c = omega (arith, room c.before)
+overflow_mul-end : tie.Need-overflow_mul-end invariant-loop-at decreases-loop-at
+overflow_mul-end c = omega (arith, room c.before)
 
-add-end-2 : tie.Need-overflow-add-end-2 invariant-loop decreases-loop
-add-end-2 c = omega (arith, room c.before)
+overflow_add-end-in-loop-at : tie.Need-overflow_add-end-in-loop-at invariant-loop-at decreases-loop-at
+overflow_add-end-in-loop-at c = omega (arith, room c.before)
 
-mul-answer-query : tie.Need-overflow-mul-answer-query invariant-loop decreases-loop
-mul-answer-query c = omega (arith, room c.before)
+offset_bounds-row-start : tie.Need-offset_bounds-row-start invariant-loop-at decreases-loop-at
+offset_bounds-row-start c = omega (arith, room c.before)
 
-sub-answer-query : tie.Need-overflow-sub-answer-query invariant-loop decreases-loop
-sub-answer-query c = search rules
+slice_bounds-answer_query-count : tie.Need-slice_bounds-answer_query-count invariant-loop-at decreases-loop-at
+slice_bounds-answer_query-count c = search rules
 
-part-answer-query-start : tie.Need-slice-bounds-answer-query-start invariant-loop decreases-loop
-part-answer-query-start c = search rules
+slice_bounds-answer_query-start : tie.Need-slice_bounds-answer_query-start invariant-loop-at decreases-loop-at
+slice_bounds-answer_query-start c = search rules
 
-part-answer-query-end : tie.Need-slice-bounds-answer-query-end invariant-loop decreases-loop
-part-answer-query-end c = omega (arith, room c.before, kept c.before.before.before)
+slice_bounds-answer_query-end : tie.Need-slice_bounds-answer_query-end invariant-loop-at decreases-loop-at
+slice_bounds-answer_query-end c = omega (arith, room c.before, kept c.before.before.before)
 
-answer-query-requires : tie.Need-answer-query-requires invariant-loop decreases-loop
-answer-query-requires c κs =
+answer_query-requires : tie.Need-answer_query-requires invariant-loop-at decreases-loop-at
+answer_query-requires c κs =
     let long = kept c.before.before.before.before in
     (posed c.before.before, simp (length-take, length-drop) (omega (arith, room c.before.before, long)))
 
-mul_at : tie.Need-overflow-mul-at invariant-loop decreases-loop
-mul_at c =
+overflow_mul-at : tie.Need-overflow_mul-at invariant-loop-at decreases-loop-at
+overflow_mul-at c =
     let r = (posed c.before.before.before.before.before.before).fits in
     omega (arith, r.all, r.terms)
 
-add_at : tie.Need-overflow-add-at invariant-loop decreases-loop
-add_at c =
+overflow_add-at : tie.Need-overflow_add-at invariant-loop-at decreases-loop-at
+overflow_add-at c =
     let r = (posed c.before.before.before.before.before.before.before).fits in
     omega (arith, r.all, r.terms)
 
-loop-less : tie.Need-loop-smaller invariant-loop decreases-loop
-loop-less c = search rules
+loop-at-smaller : tie.Need-loop-at-smaller invariant-loop-at decreases-loop-at
+loop-at-smaller c = search rules
 
-loop-again : tie.Need-loop-preserved invariant-loop decreases-loop
-loop-again c = λ f.
-    let r = c.before.before.before.before.before.before.before in
-    going_next f (r.before.before.loop.invariant f) r.before.loop-test.true r.read.result r.read.ensures _ refl _
-    c.before.before.before.before.answer-query.ensures
+loop-at-preserved : tie.Need-loop-at-preserved invariant-loop-at decreases-loop-at
+loop-at-preserved c = λ f.
+    going_next f (c.loop-at.invariant f) c.loop-at-test.true c.read-query.result c.read-query.ensures _ refl _
+    c.answer_query.ensures
 
-same_length : tie.Need-same-length invariant-loop decreases-loop
-same_length c = kept c.before
+shape_of-row : tie.Need-shape_of-row invariant-loop-at decreases-loop-at
+shape_of-row c = kept c.before
 
-returns : tie.Need-returns invariant-loop decreases-loop
+returns : tie.Need-returns invariant-loop-at decreases-loop-at
 returns c =
-    let f = c.before.before.before.before.before.requires in
-    going_ends f (c.before.loop.invariant f) c.loop-test.false
+    let f = c.requires in
+    going_ends f (c.loop-at.invariant f) c.loop-at-test.false
 
 pub fill_spec : {M : Type 1} → statement M
 fill_spec =
     tie.close
     (tie.spec
-    invariant-loop
-    decreases-loop
-    loop-holds
-    read-requires
-    add-end
-    mul-end
-    add-end-2
-    mul-answer-query
-    sub-answer-query
-    part-answer-query-start
-    part-answer-query-end
-    answer-query-requires
-    mul_at
-    add_at
-    loop-less
-    loop-again
-    same_length
+    invariant-loop-at
+    decreases-loop-at
+    loop-at-init
+    read-query-requires
+    overflow_add-end
+    overflow_mul-end
+    overflow_add-end-in-loop-at
+    offset_bounds-row-start
+    slice_bounds-answer_query-count
+    slice_bounds-answer_query-start
+    slice_bounds-answer_query-end
+    answer_query-requires
+    overflow_mul-at
+    overflow_add-at
+    loop-at-smaller
+    loop-at-preserved
+    shape_of-row
     returns)

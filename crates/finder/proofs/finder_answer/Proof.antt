@@ -10,15 +10,21 @@ answer-requires : tie.Need-answer-requires
 answer-requires c κs = search rules
 
 code-requires : tie.Need-code-requires
-code-requires c κs = rw c.before.before.answer.ensures.outcome_is (call_small _ _ _)
+code-requires c κs = rw c.answer.ensures.outcome_is (call_small _ _ _)
 
-same_length : tie.Need-same-length
-same_length c = search rules
+shape_of-row : tie.Need-shape_of-row
+shape_of-row c = search rules
 
 returns : tie.Need-returns
 returns c =
-    let a = c.before.before.before.answer.ensures in
+    let a = c.answer.ensures in
     record { code_is = c.code.ensures ∙ ap code_of a.outcome_is; row_is = a.row_is }
 
-pub finder-answer-spec : {M : Type 1} → statement M
-finder-answer-spec = tie.close (tie.spec answer-requires code-requires same_length returns)
+pub finder_answer_spec : {M : Type 1} → statement M
+finder_answer_spec =
+    tie.close
+    (tie.spec
+    answer-requires
+    code-requires
+    shape_of-row
+    returns)

@@ -10,45 +10,43 @@ use Rattle.bits.specs.Parts.{from_field, from_length}
 use Rattle.image.proofs.ends_well.Statement.{statement}
 use Rattle.image.proofs.ends_well.Tie as tie
 
-mul_left : tie.Need-overflow-mul-left
-mul_left c = search rules
+overflow_mul-left : tie.Need-overflow_mul-left
+overflow_mul-left c = search rules
 
-sub-left : tie.Need-overflow-sub-left
-sub-left c = search rules
+overflow_sub-left : tie.Need-overflow_sub-left
+overflow_sub-left c = search rules
 
-returns : tie.Need-returns
-returns c = rw (lt-leb _ _ c.if1.true)
+returns-then-left-gt7 : tie.Need-returns-then-left-gt7
+returns-then-left-gt7 c = rw (lt-leb _ _ c.if-left-gt7.true)
 
-sub-field : tie.Need-overflow-sub-field
-sub-field c = search rules
+slice_bounds-field-count : tie.Need-slice_bounds-field-count
+slice_bounds-field-count c = search rules
 
-part-field-start : tie.Need-slice-bounds-field-start
-part-field-start c = search rules
+slice_bounds-field-start : tie.Need-slice_bounds-field-start
+slice_bounds-field-start c = search rules
 
-part-field-end : tie.Need-slice-bounds-field-end
-part-field-end c = search rules
+slice_bounds-field-end : tie.Need-slice_bounds-field-end
+slice_bounds-field-end c = search rules
 
 field-requires : tie.Need-field-requires
 field-requires c κs =
-    let s = c.before.before.before in
-    omega (arith, from_length (s.args.stop / 8) s.args.image.now)
+    omega (arith, from_length (c.args.stop / 8) c.args.image.now)
 
-returns-2 : tie.Need-returns-2
-returns-2 c =
-    let s = c.before.before.before.before in
-    let a = s.args in
-    rw (le-leb _ _ c.before.before.if1.false)
+returns : tie.Need-returns
+returns c =
+    let a = c.args in
+    rw (le-leb _ _ c.if-left-gt7.false)
     (ap (λ (x : ℕ). eqb x 0) (c.field.ensures ∙ from_field a.image.now a.stop (8 * length a.image.now - a.stop)))
 
-pub ends-well-spec : {M : Type 1} → statement M
-ends-well-spec =
+pub ends_well_spec : {M : Type 1} → statement M
+ends_well_spec =
     tie.close
     (tie.spec
-    mul_left
-    sub-left
-    returns
-    sub-field
-    part-field-start
-    part-field-end
+    overflow_mul-left
+    overflow_sub-left
+    returns-then-left-gt7
+    slice_bounds-field-count
+    slice_bounds-field-start
+    slice_bounds-field-end
     field-requires
-    returns-2)
+    returns)

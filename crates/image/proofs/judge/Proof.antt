@@ -17,104 +17,95 @@ use Rattle.image.specs.VerdictLaws.{ending, image_short, image_version, image_le
 use Rattle.image.proofs.judge.Statement.{statement}
 use Rattle.image.proofs.judge.Tie as tie
 
-bounded : (c : tie.After-read-header) → HeaderBounds (header_fields c.read-header.result)
-bounded c = header_bounds c.before.before.before.args.image.now (header_fields c.read-header.result) c.read-header.ensures
+bounded : (c : tie.After-read_header-header) → HeaderBounds (header_fields c.read_header-header.result)
+bounded c = header_bounds c.args.image.now (header_fields c.read_header-header.result) c.read_header-header.ensures
 
 -- what the meaning says, by what was found of the lists
 found :
-    (c : tie.After-judge-lists) (r : Lists) → c.judge-lists.result ≡ r →
-    let h = c.before.before.before.before in
-    let s = h.before.before.before.args.image.now in
-    sizes_of (image_of s) ≡ (lists_say r >>= ending s (header_fields h.read-header.result))
+    (c : tie.After-judge_lists-found) (r : Lists) → c.judge_lists-found.result ≡ r →
+    let s = c.args.image.now in
+    sizes_of (image_of s) ≡ (lists_say r >>= ending s (header_fields c.read_header-header.result))
 found c r q =
-    let h = c.before.before.before.before in
-    image_there h.before.before.before.args.image.now (header_fields h.read-header.result) h.read-header.ensures h.before.if1.false
-    c.before.before.before.if2.false c.before.before.if3.false c.before.if4.false (lists_say r) (ap lists_say (sym q) ∙ c.judge-lists.ensures)
+    image_there c.args.image.now (header_fields c.read_header-header.result) c.read_header-header.ensures c.if-image-lt8.false
+    c.if-version-ne1.false c.if-bytes-image.false c.if-image-terms.false (lists_say r) (ap lists_say (sym q) ∙ c.judge_lists-found.ensures)
 
-stops : (c : tie.After-found2) → c.found2.given.0.0 ≤ 8 * length c.before.before.before.before.before.before.before.before.before.args.image.now
+stops : (c : tie.In-Good) → c.in-Good.stop ≤ 8 * length c.args.image.now
 stops c =
-    let j = c.before.before in
-    let h = j.before.before.before.before in
-    let a = h.before.before.before.args in
-    let t = h.read-header.result.terms in
-    let room = j.before.if4.false in
-    stop_inside a.image.now h.read-header.result.docs 0 (64 + 64 * t) t _ (omega arith) (ap lists_say (sym c.found2.given.1) ∙ j.judge-lists.ensures)
+    let a = c.args in
+    let t = c.read_header-header.result.terms in
+    let room = c.if-image-terms.false in
+    stop_inside a.image.now c.read_header-header.result.docs 0 (64 + 64 * t) t _ (omega arith) (ap lists_say (sym c.in-Good.is) ∙ c.judge_lists-found.ensures)
 
-returns : tie.Need-returns
-returns c = sym (image_short c.before.before.args.image.now c.if1.true)
+returns-then-image-lt8 : tie.Need-returns-then-image-lt8
+returns-then-image-lt8 c = sym (image_short c.args.image.now c.if-image-lt8.true)
 
-read-header-requires : tie.Need-read-header-requires
-read-header-requires c κs = search rules
+read_header-header-requires : tie.Need-read_header-header-requires
+read_header-header-requires c κs = search rules
 
-returns-2 : tie.Need-returns-2
-returns-2 c =
-    let h = c.before in
-    sym (image_version h.before.before.before.args.image.now (header_fields h.read-header.result) h.read-header.ensures h.before.if1.false c.if2.true)
+returns-then-version-ne1 : tie.Need-returns-then-version-ne1
+returns-then-version-ne1 c =
+    sym (image_version c.args.image.now (header_fields c.read_header-header.result) c.read_header-header.ensures c.if-image-lt8.false c.if-version-ne1.true)
 
-returns-3 : tie.Need-returns-3
-returns-3 c =
-    let h = c.before.before in
+returns-then-bytes-image : tie.Need-returns-then-bytes-image
+returns-then-bytes-image c =
     sym
-    (image_length h.before.before.before.args.image.now (header_fields h.read-header.result) h.read-header.ensures h.before.if1.false
-    c.before.if2.false (rw (ne_eqb _ _ c.if3.true)))
+    (image_length c.args.image.now (header_fields c.read_header-header.result) c.read_header-header.ensures c.if-image-lt8.false
+    c.if-version-ne1.false (rw (ne_eqb _ _ c.if-bytes-image.true)))
 
-mul-if4 : tie.Need-overflow-mul-if4
-mul-if4 c = omega (arith, (bounded c.before.before).terms)
+overflow_mul-terms : tie.Need-overflow_mul-terms
+overflow_mul-terms c = omega (arith, (bounded c.before.before).terms)
 
-add-if4 : tie.Need-overflow-add-if4
-add-if4 c = omega (arith, (bounded c.before.before).terms)
+overflow_add-terms : tie.Need-overflow_add-terms
+overflow_add-terms c = omega (arith, (bounded c.before.before).terms)
 
-returns-4 : tie.Need-returns-4
-returns-4 c =
-    let h = c.before.before.before in
+returns-then-image-terms : tie.Need-returns-then-image-terms
+returns-then-image-terms c =
     sym
-    (image_length h.before.before.before.args.image.now (header_fields h.read-header.result) h.read-header.ensures h.before.if1.false
-    c.before.before.if2.false (rw (eq-eqb _ _ c.before.if3.false, lt-leb _ _ c.if4.true)))
+    (image_length c.args.image.now (header_fields c.read_header-header.result) c.read_header-header.ensures c.if-image-lt8.false
+    c.if-version-ne1.false (rw (eq-eqb _ _ c.if-bytes-image.false, lt-leb _ _ c.if-image-terms.true)))
 
-judge-lists-requires : tie.Need-judge-lists-requires
-judge-lists-requires c κs = let b = bounded c.before.before.before in omega (arith, b.docs, b.bytes)
+judge_lists-found-requires : tie.Need-judge_lists-found-requires
+judge_lists-found-requires c κs = let b = bounded c.before.before.before in omega (arith, b.docs, b.bytes)
 
-enum-known-found : tie.Need-enum-known-found
-enum-known-found c = search rules
+enum_known-found : tie.Need-enum_known-found
+enum_known-found c = search rules
 
-enum-known-found-2 : tie.Need-enum-known-found-2
-enum-known-found-2 c = search rules
+enum_known-found-in-Good-1 : tie.Need-enum_known-found-in-Good-1
+enum_known-found-in-Good-1 c = search rules
 
-ends-well-requires : tie.Need-ends-well-requires
-ends-well-requires c κs = omega (arith, stops c.before, (bounded c.before.before.before.before.before.before.before).bytes)
+ends_well-requires : tie.Need-ends_well-requires
+ends_well-requires c κs = omega (arith, stops c, (bounded c.before.before.before.before.before).bytes)
 
-returns-5 : tie.Need-returns-5
-returns-5 c =
-    let w = c.before in
-    sym (found w.before.before.before.before _ w.before.before.found2.given.1 ∙ rw (sym w.ends-well.ensures ∙ not-true w.ends-well.result c.if5.true))
+returns-then-not-ends_well : tie.Need-returns-then-not-ends_well
+returns-then-not-ends_well c =
+    sym (found c.before.before.before _ c.in-Good.is ∙ rw (sym c.ends_well.ensures ∙ not-true c.ends_well.result c.if-not-ends_well.true-raw))
 
-cast-t18 : tie.Need-overflow-cast-t18
-cast-t18 c = omega (arith, (bounded c.before.before.before.before.before.before.before.before.before).docs)
+overflow_cast-result : tie.Need-overflow_cast-result
+overflow_cast-result c = omega (arith, (bounded c.before.before.before.before.before.before.before).docs)
 
-returns-6 : tie.Need-returns-6
-returns-6 c = sym (found c.before.before.before _ c.before.found.given.1)
+returns-in-Wrong : tie.Need-returns-in-Wrong
+returns-in-Wrong c = sym (found c.before _ c.in-Wrong.is)
 
-returns-7 : tie.Need-returns-7
-returns-7 c =
-    let w = c.before in
-    sym (found w.before.before.before.before _ w.before.before.found2.given.1 ∙ rw (sym w.ends-well.ensures ∙ not-false w.ends-well.result c.if5.false))
+returns-else-not-ends_well : tie.Need-returns-else-not-ends_well
+returns-else-not-ends_well c =
+    sym (found c.before.before.before _ c.in-Good.is ∙ rw (sym c.ends_well.ensures ∙ not-false c.ends_well.result c.if-not-ends_well.false-raw))
 
-pub judge-spec : {M : Type 1} → statement M
-judge-spec =
+pub judge_spec : {M : Type 1} → statement M
+judge_spec =
     tie.close
     (tie.spec
-    returns
-    read-header-requires
-    returns-2
-    returns-3
-    mul-if4
-    add-if4
-    returns-4
-    judge-lists-requires
-    enum-known-found
-    enum-known-found-2
-    ends-well-requires
-    returns-5
-    cast-t18
-    returns-6
-    returns-7)
+    returns-then-image-lt8
+    read_header-header-requires
+    returns-then-version-ne1
+    returns-then-bytes-image
+    overflow_mul-terms
+    overflow_add-terms
+    returns-then-image-terms
+    judge_lists-found-requires
+    enum_known-found
+    enum_known-found-in-Good-1
+    ends_well-requires
+    returns-then-not-ends_well
+    overflow_cast-result
+    returns-in-Wrong
+    returns-else-not-ends_well)

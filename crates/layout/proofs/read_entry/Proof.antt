@@ -8,31 +8,38 @@ use Rattle.bits.specs.Parts.{from_bits}
 use Rattle.layout.proofs.read_entry.Statement.{statement}
 use Rattle.layout.proofs.read_entry.Tie as tie
 
-mul_at : tie.Need-overflow-mul-at
-mul_at c = search rules
+overflow_mul-at : tie.Need-overflow_mul-at
+overflow_mul-at c = search rules
 
-add_at : tie.Need-overflow-add-at
-add_at c = search rules
+overflow_add-at : tie.Need-overflow_add-at
+overflow_add-at c = search rules
 
-sub_word : tie.Need-overflow-sub-word
-sub_word c = search rules
+slice_bounds-word-count : tie.Need-slice_bounds-word-count
+slice_bounds-word-count c = search rules
 
-part-word-start : tie.Need-slice-bounds-word-start
-part-word-start c = search rules
+slice_bounds-word-start : tie.Need-slice_bounds-word-start
+slice_bounds-word-start c = search rules
 
-part-word-end : tie.Need-slice-bounds-word-end
-part-word-end c = search rules
+slice_bounds-word-end : tie.Need-slice_bounds-word-end
+slice_bounds-word-end c = search rules
 
-word-requires : tie.Need-word-requires
-word-requires c κs = search rules
+word-x-requires : tie.Need-word-x-requires
+word-x-requires c κs = search rules
 
 returns : tie.Need-returns
 returns c =
-    let s = c.before.before.before in
-    let t = s.args.term in
+    let t = c.args.term in
     let at : 8 * (8 + 8 * t) + 0 ≡ 64 + 64 * t = omega arith in
-    sym (entry_is s.args.image.now t c.word.result (c.word.ensures ∙ rw at at (from_bits (8 + 8 * t) s.args.image.now 0 64)))
+    sym (entry_is c.args.image.now t c.word-x.result (c.word-x.ensures ∙ rw at at (from_bits (8 + 8 * t) c.args.image.now 0 64)))
 
-pub read-entry-spec : {M : Type 1} → statement M
-read-entry-spec =
-    tie.close (tie.spec mul_at add_at sub_word part-word-start part-word-end word-requires returns)
+pub read_entry_spec : {M : Type 1} → statement M
+read_entry_spec =
+    tie.close
+    (tie.spec
+    overflow_mul-at
+    overflow_add-at
+    slice_bounds-word-count
+    slice_bounds-word-start
+    slice_bounds-word-end
+    word-x-requires
+    returns)

@@ -5,16 +5,20 @@ use Rattle.layout.specs.FieldsLaws.{head_is}
 use Rattle.layout.proofs.read_head.Statement.{statement}
 use Rattle.layout.proofs.read_head.Tie as tie
 
-field-requires : tie.Need-field-requires
-field-requires c κs = search rules
+field-x-requires : tie.Need-field-x-requires
+field-x-requires c κs = search rules
 
-add-t6 : tie.Need-overflow-add-t6
-add-t6 c = search rules
+overflow_add-result : tie.Need-overflow_add-result
+overflow_add-result c = search rules
 
 returns : tie.Need-returns
 returns c =
-    let s = c.before.before in
-    sym (head_is s.args.part.now s.args.shift c.field.result c.field.ensures)
+    sym (head_is c.args.part.now c.args.shift c.field-x.result c.field-x.ensures)
 
-pub read-head-spec : {M : Type 1} → statement M
-read-head-spec = tie.close (tie.spec field-requires add-t6 returns)
+pub read_head_spec : {M : Type 1} → statement M
+read_head_spec =
+    tie.close
+    (tie.spec
+    field-x-requires
+    overflow_add-result
+    returns)

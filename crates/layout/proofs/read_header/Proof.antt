@@ -5,11 +5,15 @@ use Rattle.layout.specs.FieldsLaws.{header_is}
 use Rattle.layout.proofs.read_header.Statement.{statement}
 use Rattle.layout.proofs.read_header.Tie as tie
 
-word-requires : tie.Need-word-requires
-word-requires c κs = search rules
+word-x-requires : tie.Need-word-x-requires
+word-x-requires c κs = search rules
 
 returns : tie.Need-returns
-returns c = sym (header_is c.before.before.args.image.now c.word.result c.word.ensures)
+returns c = sym (header_is c.args.image.now c.word-x.result c.word-x.ensures)
 
-pub read-header-spec : {M : Type 1} → statement M
-read-header-spec = tie.close (tie.spec word-requires returns)
+pub read_header_spec : {M : Type 1} → statement M
+read_header_spec =
+    tie.close
+    (tie.spec
+    word-x-requires
+    returns)

@@ -13,185 +13,169 @@ use Rattle.meet.proofs.Turns.{Looping, Found, here, found_sought, found_here, hi
 use Rattle.meet.proofs.meet.Statement.{statement}
 use Rattle.meet.proofs.meet.Tie as tie
 
-abbrev invariant-loop : tie.invariant-loop
-invariant-loop image q past count bar budget cost ms₀ past₀ count₀ sum₀ i₀ ms past' count' sum i =
+abbrev invariant-loop-past : tie.invariant-loop-past
+invariant-loop-past image q past count bar budget cost ms₀ past₀ count₀ sum₀ i₀ ms past' count' sum i =
     let os = meant_of image q ms₀ in
     Looping image os bar q budget (meet_by image os bar q budget past₀ count₀) cost past' ms count' sum i
 
-abbrev decreases-loop : tie.decreases-loop
-decreases-loop image q past count bar budget cost ms₀ past₀ count₀ sum₀ i₀ ms past' count' sum i =
+abbrev decreases-loop-past : tie.decreases-loop-past
+decreases-loop-past image q past count bar budget cost ms₀ past₀ count₀ sum₀ i₀ ms past' count' sum i =
     17 * ((index_of image).docs + 2 - past') + (q - i)
 
 -- mention i when it is looked at
-at-found : (c : tie.Joined2 invariant-loop decreases-loop) →
-    let d = c.before.before.before.before in
-    let l = d.before.loop in
-    Found d.before.before.before.args.image.now (l.past - 1) l.ms l.i c.if2.ms c.if2.m
+at-found : (c : tie.Joined-m-past invariant-loop-past decreases-loop-past) →
+    let l = c.loop-past in
+    Found c.args.image.now (l.past - 1) l.ms l.i c.if-m-past.ms c.if-m-past.m
 at-found c =
-    let d = c.before.before.before.before in
-    let l = d.before.loop in
-    let x = here l.invariant d.loop-test.true in
-    let lt = c.before.before.before.if1.true in
+    let l = c.loop-past in
+    let x = here l.invariant c.loop-past-test.true in
+    let lt = c.if-i-q.true in
     ⊎_elim
-    (λ w. found_sought x lt w.1.ensures w.2 w.3)
-    (λ w. found_here x lt (omega (arith, l.invariant.least, w.0.left)) w.1 w.2)
-    c.if2.branch
+    (λ w. found_sought x lt w.sought-m.ensures w.ms-is w.m-is)
+    (λ w. found_here x lt (omega (arith, l.invariant.least, w.if-m-past.false)) w.ms-is w.m-is)
+    c.if-m-past.branch-raw
 
 -- and its product where its list holds the document
-at-product : (c : tie.After-struct-known3 invariant-loop decreases-loop) →
-    let m = c.before.before.before.if2.m in
+at-product : (c : tie.After-struct_known-then-m-past-2-1 invariant-loop-past decreases-loop-past) →
+    let m = c.if-m-past.m in
     m.weight * m.cursor.impact ≤ 65025
 at-product c =
-    let d = c.before.before.before.before.before.before.before in
-    let x = here d.before.loop.invariant d.loop-test.true in
-    stands_fits (at-found c.before.before.before).stands (λ z. omega (arith, x.at.most, x.at.ground.docs, c.before.if3.true))
+    let x = here c.loop-past.invariant c.loop-past-test.true in
+    stands_fits (at-found c.before.before.before).stands (λ z. omega (arith, x.at.most, x.at.ground.docs, c.if-m-past-2.true))
 
-cast-cost : tie.Need-overflow-cast-cost invariant-loop decreases-loop
-cast-cost c = search rules
+overflow_cast-cost : tie.Need-overflow_cast-cost invariant-loop-past decreases-loop-past
+overflow_cast-cost c = search rules
 
-loop-holds : tie.Need-loop-init invariant-loop decreases-loop
-loop-holds c =
-    let long : length c.before.args.ms ≡ 16 = search rules in
-    starts c.before.requires long (search rules)
+loop-past-init : tie.Need-loop-past-init invariant-loop-past decreases-loop-past
+loop-past-init c =
+    let long : length c.args.ms ≡ 16 = search rules in
+    starts c.requires long (search rules)
 
-mul-m : tie.Need-overflow-mul-m invariant-loop decreases-loop
-mul-m c = search rules
+offset_bounds-ms-i : tie.Need-offset_bounds-ms-i invariant-loop-past decreases-loop-past
+offset_bounds-ms-i c = search rules
 
-array-copy-out-m : tie.Need-array-copy-out-m invariant-loop decreases-loop
-array-copy-out-m c = search rules
+bounds-ms-i : tie.Need-bounds-ms-i invariant-loop-past decreases-loop-past
+bounds-ms-i c = search rules
 
-sought-requires : tie.Need-sought-requires invariant-loop decreases-loop
-sought-requires c κs =
-    let d = c.before.before.before.before in
-    let l = d.before.loop in
-    let x = here l.invariant d.loop-test.true in
-    (l.invariant.least, omega (arith, x.at.most, x.at.ground.docs), x.at.placed.aside l.i c.before.before.before.if1.true)
+sought-m-requires : tie.Need-sought-m-requires invariant-loop-past decreases-loop-past
+sought-m-requires c κs =
+    let l = c.loop-past in
+    let x = here l.invariant c.loop-past-test.true in
+    (l.invariant.least, omega (arith, x.at.most, x.at.ground.docs), x.at.placed.aside l.i c.if-i-q.true)
 
-mul-ms : tie.Need-overflow-mul-ms invariant-loop decreases-loop
-mul-ms c = search rules
+offset_bounds-ms-i-then-m-past : tie.Need-offset_bounds-ms-i-then-m-past invariant-loop-past decreases-loop-past
+offset_bounds-ms-i-then-m-past c = search rules
 
-array-set-from-ms : tie.Need-array-set-from-ms invariant-loop decreases-loop
-array-set-from-ms c = search rules
+bounds-ms-i-then-m-past : tie.Need-bounds-ms-i-then-m-past invariant-loop-past decreases-loop-past
+bounds-ms-i-then-m-past c = search rules
 
-mul-sum : tie.Need-overflow-mul-sum invariant-loop decreases-loop
-mul-sum c =
+overflow_mul-sum : tie.Need-overflow_mul-sum invariant-loop-past decreases-loop-past
+overflow_mul-sum c =
     let fits = at-product c in omega arith
 
-add-sum : tie.Need-overflow-add-sum invariant-loop decreases-loop
-add-sum c =
-    let d = c.before.before.before.before.before.before.before in
-    let x = here d.before.loop.invariant d.loop-test.true in
+overflow_add-sum : tie.Need-overflow_add-sum invariant-loop-past decreases-loop-past
+overflow_add-sum c =
+    let x = here c.loop-past.invariant c.loop-past-test.true in
     omega (arith, at-product c, x.sum_fits, x.within, x.at.ground.few)
 
-add-i : tie.Need-overflow-add-i invariant-loop decreases-loop
-add-i c = search rules
+overflow_add-i : tie.Need-overflow_add-i invariant-loop-past decreases-loop-past
+overflow_add-i c = search rules
 
-loop-less : tie.Need-loop-smaller invariant-loop decreases-loop
-loop-less c = search rules
+loop-past-smaller-then-m-past-2 : tie.Need-loop-past-smaller-then-m-past-2 invariant-loop-past decreases-loop-past
+loop-past-smaller-then-m-past-2 c = search rules
 
-loop-again : tie.Need-loop-preserved invariant-loop decreases-loop
-loop-again c =
-    let k = c.before.before.before in
-    let d = k.before.before.before.before in
-    hits d.before.loop.invariant d.loop-test.true k.before.before.before.if1.true (at-found k) c.before.if3.true
+loop-past-preserved-then-m-past-2 : tie.Need-loop-past-preserved-then-m-past-2 invariant-loop-past decreases-loop-past
+loop-past-preserved-then-m-past-2 c =
+    hits c.loop-past.invariant c.loop-past-test.true c.if-i-q.true (at-found c.before.before.before) c.if-m-past-2.true
 
-loop-less-2 : tie.Need-loop-smaller-2 invariant-loop decreases-loop
-loop-less-2 c =
-    let k = c.before.before in
-    let d = k.before.before.before.before in
-    let l = d.before.loop in
-    let x = here l.invariant d.loop-test.true in
-    omega (arith, x.at.most, x.at.ground.few, x.within, rises l.invariant d.loop-test.true k.before.before.before.if1.true (at-found k) c.if3.false)
+loop-past-smaller-else-m-past-2 : tie.Need-loop-past-smaller-else-m-past-2 invariant-loop-past decreases-loop-past
+loop-past-smaller-else-m-past-2 c =
+    let l = c.loop-past in
+    let x = here l.invariant c.loop-past-test.true in
+    omega (arith, x.at.most, x.at.ground.few, x.within, rises l.invariant c.loop-past-test.true c.if-i-q.true (at-found c.before.before) c.if-m-past-2.false)
 
-loop-again-2 : tie.Need-loop-preserved-2 invariant-loop decreases-loop
-loop-again-2 c =
-    let k = c.before.before in
-    let d = k.before.before.before.before in
-    let l = d.before.loop in
-    misses l.invariant d.loop-test.true k.before.before.before.if1.true (at-found k) c.if3.false
+loop-past-preserved-else-m-past-2 : tie.Need-loop-past-preserved-else-m-past-2 invariant-loop-past decreases-loop-past
+loop-past-preserved-else-m-past-2 c =
+    let l = c.loop-past in
+    misses l.invariant c.loop-past-test.true c.if-i-q.true (at-found c.before.before) c.if-m-past-2.false
 
-cast-if4 : tie.Need-overflow-cast-if4 invariant-loop decreases-loop
-cast-if4 c = search rules
+overflow_cast-count : tie.Need-overflow_cast-count invariant-loop-past decreases-loop-past
+overflow_cast-count c = search rules
 
-cast-if4-2 : tie.Need-overflow-cast-if4-2 invariant-loop decreases-loop
-cast-if4-2 c = search rules
+overflow_cast-cost-else-i-q : tie.Need-overflow_cast-cost-else-i-q invariant-loop-past decreases-loop-past
+overflow_cast-cost-else-i-q c = search rules
 
-add-if4 : tie.Need-overflow-add-if4 invariant-loop decreases-loop
-add-if4 c = search rules
+overflow_add-count : tie.Need-overflow_add-count invariant-loop-past decreases-loop-past
+overflow_add-count c = search rules
 
-ended-requires : tie.Need-ended-requires invariant-loop decreases-loop
+ended-requires : tie.Need-ended-requires invariant-loop-past decreases-loop-past
 ended-requires c κs = search rules
 
-returns : tie.Need-returns invariant-loop decreases-loop
-returns c =
-    let d = c.before.before.before in
-    stops d.before.loop.invariant d.loop-test.true c.before.before.if1.false c.before.if4.true c.ended.ensures
+returns-then-budget-count : tie.Need-returns-then-budget-count invariant-loop-past decreases-loop-past
+returns-then-budget-count c =
+    stops c.loop-past.invariant c.loop-past-test.true c.if-i-q.false c.if-budget-count.true c.ended.ensures
 
-add-count : tie.Need-overflow-add-count invariant-loop decreases-loop
-add-count c = search rules
+overflow_add-count-else-i-q : tie.Need-overflow_add-count-else-i-q invariant-loop-past decreases-loop-past
+overflow_add-count-else-i-q c = search rules
 
-add-next : tie.Need-overflow-add-next invariant-loop decreases-loop
-add-next c =
-    let d = c.before.before in
-    let x = here d.before.loop.invariant d.loop-test.true in
+overflow_add-next : tie.Need-overflow_add-next invariant-loop-past decreases-loop-past
+overflow_add-next c =
+    let x = here c.loop-past.invariant c.loop-past-test.true in
     omega (arith, x.at.most, x.at.ground.docs)
 
-ended-requires-2 : tie.Need-ended-requires-2 invariant-loop decreases-loop
-ended-requires-2 c κs = search rules
+ended-requires-then-bar-sum : tie.Need-ended-requires-then-bar-sum invariant-loop-past decreases-loop-past
+ended-requires-then-bar-sum c κs = search rules
 
-returns-2 : tie.Need-returns-2 invariant-loop decreases-loop
-returns-2 c =
-    let d = c.before.before.before.before in
-    enters d.before.loop.invariant d.loop-test.true c.before.before.before.if1.false c.before.before.if4.false c.before.if5.true c.ended2.ensures
+returns-then-bar-sum : tie.Need-returns-then-bar-sum invariant-loop-past decreases-loop-past
+returns-then-bar-sum c =
+    enters c.loop-past.invariant c.loop-past-test.true c.if-i-q.false c.if-budget-count.false c.if-bar-sum.true c.ended-then-bar-sum.ensures
 
-loop-less-3 : tie.Need-loop-smaller-3 invariant-loop decreases-loop
-loop-less-3 c =
-    let d = c.before.before.before in
-    let x = here d.before.loop.invariant d.loop-test.true in
+loop-past-smaller : tie.Need-loop-past-smaller invariant-loop-past decreases-loop-past
+loop-past-smaller c =
+    let x = here c.loop-past.invariant c.loop-past-test.true in
     omega (arith, x.at.most, x.at.ground.few, x.within)
 
-loop-again-3 : tie.Need-loop-preserved-3 invariant-loop decreases-loop
-loop-again-3 c =
-    let d = c.before.before.before in
-    passes d.before.loop.invariant d.loop-test.true c.before.before.if1.false c.before.if4.false c.if5.false
+loop-past-preserved : tie.Need-loop-past-preserved invariant-loop-past decreases-loop-past
+loop-past-preserved c =
+    passes c.loop-past.invariant c.loop-past-test.true c.if-i-q.false c.if-budget-count.false c.if-bar-sum.false
 
-ended-requires-3 : tie.Need-ended-requires-3 invariant-loop decreases-loop
-ended-requires-3 c κs = search rules
+ended-requires-2 : tie.Need-ended-requires-2 invariant-loop-past decreases-loop-past
+ended-requires-2 c κs = search rules
 
-returns-3 : tie.Need-returns-3 invariant-loop decreases-loop
-returns-3 c =
-    finished c.before.before.loop.invariant c.before.loop-test.false c.ended3.ensures
+returns : tie.Need-returns invariant-loop-past decreases-loop-past
+returns c =
+    finished c.loop-past.invariant c.loop-past-test.false c.ended-2.ensures
 
-pub meet-spec : {M : Type 1} → statement M
-meet-spec =
+pub meet_spec : {M : Type 1} → statement M
+meet_spec =
     tie.close
     (tie.spec
-    invariant-loop
-    decreases-loop
-    cast-cost
-    loop-holds
-    mul-m
-    array-copy-out-m
-    sought-requires
-    mul-ms
-    array-set-from-ms
-    mul-sum
-    add-sum
-    add-i
-    loop-less
-    loop-again
-    loop-less-2
-    loop-again-2
-    cast-if4
-    cast-if4-2
-    add-if4
+    invariant-loop-past
+    decreases-loop-past
+    overflow_cast-cost
+    loop-past-init
+    offset_bounds-ms-i
+    bounds-ms-i
+    sought-m-requires
+    offset_bounds-ms-i-then-m-past
+    bounds-ms-i-then-m-past
+    overflow_mul-sum
+    overflow_add-sum
+    overflow_add-i
+    loop-past-smaller-then-m-past-2
+    loop-past-preserved-then-m-past-2
+    loop-past-smaller-else-m-past-2
+    loop-past-preserved-else-m-past-2
+    overflow_cast-count
+    overflow_cast-cost-else-i-q
+    overflow_add-count
     ended-requires
-    returns
-    add-count
-    add-next
+    returns-then-budget-count
+    overflow_add-count-else-i-q
+    overflow_add-next
+    ended-requires-then-bar-sum
+    returns-then-bar-sum
+    loop-past-smaller
+    loop-past-preserved
     ended-requires-2
-    returns-2
-    loop-less-3
-    loop-again-3
-    ended-requires-3
-    returns-3)
+    returns)

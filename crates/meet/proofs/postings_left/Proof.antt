@@ -4,26 +4,33 @@ use borrow.Author.Rules.{rules}
 use Rattle.meet.proofs.postings_left.Statement.{statement}
 use Rattle.meet.proofs.postings_left.Tie as tie
 
-cast-result : tie.Need-overflow-cast-result
-cast-result c = search rules
+overflow_cast-result : tie.Need-overflow_cast-result
+overflow_cast-result c = search rules
 
-cast-result-2 : tie.Need-overflow-cast-result-2
-cast-result-2 c = search rules
+overflow_cast-result-else-c : tie.Need-overflow_cast-result-else-c
+overflow_cast-result-else-c c = search rules
 
-add-result : tie.Need-overflow-add-result
-add-result c = search rules
+overflow_add-result : tie.Need-overflow_add-result
+overflow_add-result c = search rules
 
-add-result-2 : tie.Need-overflow-add-result-2
-add-result-2 c = search rules
+overflow_add-result-else-c : tie.Need-overflow_add-result-else-c
+overflow_add-result-else-c c = search rules
 
-returns : tie.Need-returns
-returns c =
-    rw (eq-eqb _ _ c.if1.true)
+returns-then-c : tie.Need-returns-then-c
+returns-then-c c =
+    rw (eq-eqb _ _ c.if-c.true)
 
-returns-2 : tie.Need-returns-2
-returns-2 c =
-    rw (ne_eqb _ _ c.before.before.if1.false)
+returns-else-c : tie.Need-returns-else-c
+returns-else-c c =
+    rw (ne_eqb _ _ c.if-c.false)
 
-pub postings-left-spec : {M : Type 1} → statement M
-postings-left-spec =
-    tie.close (tie.spec cast-result cast-result-2 add-result add-result-2 returns returns-2)
+pub postings_left_spec : {M : Type 1} → statement M
+postings_left_spec =
+    tie.close
+    (tie.spec
+    overflow_cast-result
+    overflow_cast-result-else-c
+    overflow_add-result
+    overflow_add-result-else-c
+    returns-then-c
+    returns-else-c)

@@ -6,52 +6,57 @@ use Rattle.pair.specs.Alone.{Frame, AloneAt, with_one, alone_here, alone_own, al
 use Rattle.pair.proofs.alone.Statement.{statement}
 use Rattle.pair.proofs.alone.Tie as tie
 
-abbrev invariant-loop : tie.invariant-loop
-invariant-loop image slack limit past count m₀ past₀ t₀ m past' t =
+abbrev invariant-loop-here : tie.invariant-loop-here
+invariant-loop-here image slack limit past count m₀ past₀ t₀ m past' t =
     (f : Frame) → AloneAt image f m₀ slack limit past₀ t₀ → AloneAt image (with_one f m) m slack limit past' t
 
-abbrev decreases-loop : tie.decreases-loop
-decreases-loop image slack limit past count m₀ past₀ t₀ m past' t = 4294967296 - m.cursor.past
+abbrev decreases-loop-here : tie.decreases-loop-here
+decreases-loop-here image slack limit past count m₀ past₀ t₀ m past' t = 4294967296 - m.cursor.past
 
 -- a walk that the mention stands in, where its posting's document is visited
-here : (c : tie.After-carried invariant-loop decreases-loop) →
-    let l = c.before.before.before in
-    let s = l.before.before in
-    AloneAt s.args.image.now (with_one s.requires.0 l.loop.m) l.loop.m s.args.slack s.args.limit l.loop.m.cursor.past c.carried.result
+here : (c : tie.After-carried invariant-loop-here decreases-loop-here) →
+    AloneAt c.args.image.now (with_one c.requires.0 c.loop-here.m) c.loop-here.m c.args.slack c.args.limit c.loop-here.m.cursor.past c.carried.result
 here c =
-    let l = c.before.before.before in
-    let s = l.before.before in
-    alone_here (l.loop.invariant s.requires.0 s.requires.1) (c.before.before.goes_on.ensures.0 c.before.if1.true) c.carried.ensures
+    alone_here (c.loop-here.invariant c.requires.0 c.requires.1) (c.goes_on.ensures.0 c.loop-here-test.true) c.carried.ensures
 
-loop-holds : tie.Need-loop-init invariant-loop decreases-loop
-loop-holds c = λ f x. alone_own x
+loop-here-init : tie.Need-loop-here-init invariant-loop-here decreases-loop-here
+loop-here-init c = λ f x. alone_own x
 
-goes-on-requires : tie.Need-goes-on-requires invariant-loop decreases-loop
-goes-on-requires c κs = tt
+goes_on-requires : tie.Need-goes_on-requires invariant-loop-here decreases-loop-here
+goes_on-requires c κs = tt
 
-carried-requires : tie.Need-carried-requires invariant-loop decreases-loop
+carried-requires : tie.Need-carried-requires invariant-loop-here decreases-loop-here
 carried-requires c κs = tt
 
-scored-requires : tie.Need-scored-requires invariant-loop decreases-loop
-scored-requires c κs = alone_scores (here c)
+scored-t-requires : tie.Need-scored-t-requires invariant-loop-here decreases-loop-here
+scored-t-requires c κs = alone_scores (here c)
 
-went-requires : tie.Need-went-requires invariant-loop decreases-loop
-went-requires c κs = alone_goes (here c.before)
+went-m-requires : tie.Need-went-m-requires invariant-loop-here decreases-loop-here
+went-m-requires c κs = alone_goes (here c.before)
 
-loop-less : tie.Need-loop-smaller invariant-loop decreases-loop
-loop-less c = omega (arith, alone_rises (here c.before.before) c.went.ensures, sound_most c.went.ensures.stands.sound)
+loop-here-smaller : tie.Need-loop-here-smaller invariant-loop-here decreases-loop-here
+loop-here-smaller c = omega (arith, alone_rises (here c.before.before) c.went-m.ensures, sound_most c.went-m.ensures.stands.sound)
 
-loop-again : tie.Need-loop-preserved invariant-loop decreases-loop
-loop-again c =
-    let l = c.before.before.before.before.before in
+loop-here-preserved : tie.Need-loop-here-preserved invariant-loop-here decreases-loop-here
+loop-here-preserved c =
     λ f x.
-    let y = alone_here (l.loop.invariant f x) (c.before.before.before.before.goes_on.ensures.0 c.before.before.before.if1.true) c.before.before.carried.ensures in
-    alone_again f l.loop.m (alone_on y c.went.ensures c.before.scored.ensures)
+    let y = alone_here (c.loop-here.invariant f x) (c.goes_on.ensures.0 c.loop-here-test.true) c.carried.ensures in
+    alone_again f c.loop-here.m (alone_on y c.went-m.ensures c.scored-t.ensures)
 
-returns : tie.Need-returns invariant-loop decreases-loop
-returns c = λ f x. record { at = c.before.before.loop.invariant f x; later = c.before.goes_on.ensures.1 c.if1.false }
+returns : tie.Need-returns invariant-loop-here decreases-loop-here
+returns c = λ f x. record { at = c.loop-here.invariant f x; later = c.goes_on.ensures.1 c.loop-here-test.false }
 
-pub alone-spec : {M : Type 1} → statement M
-alone-spec =
+pub alone_spec : {M : Type 1} → statement M
+alone_spec =
     tie.close
-    (tie.spec invariant-loop decreases-loop loop-holds goes-on-requires carried-requires scored-requires went-requires loop-less loop-again returns)
+    (tie.spec
+    invariant-loop-here
+    decreases-loop-here
+    loop-here-init
+    goes_on-requires
+    carried-requires
+    scored-t-requires
+    went-m-requires
+    loop-here-smaller
+    loop-here-preserved
+    returns)

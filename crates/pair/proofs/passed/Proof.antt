@@ -6,32 +6,40 @@ use Rattle.lists.specs.Tests.{by_test}
 use Rattle.pair.proofs.passed.Statement.{statement}
 use Rattle.pair.proofs.passed.Tie as tie
 
-one_at_most : (c : tie.After-pick) → c.pick.result ≤ 1
-one_at_most c = by_test c.before.before.args.go (λ e. omega (arith, c.pick.ensures.0 e)) (λ e. omega (arith, c.pick.ensures.1 e))
+one_at_most : (c : tie.After-pick-step) → c.pick-step.result ≤ 1
+one_at_most c = by_test c.args.go (λ e. omega (arith, c.pick-step.ensures.0 e)) (λ e. omega (arith, c.pick-step.ensures.1 e))
+
+pick-step-requires : tie.Need-pick-step-requires
+pick-step-requires c κs = tt
 
 pick-requires : tie.Need-pick-requires
 pick-requires c κs = tt
 
-pick-requires-2 : tie.Need-pick-requires-2
-pick-requires-2 c κs = tt
+overflow_add-place : tie.Need-overflow_add-place
+overflow_add-place c = omega (arith, one_at_most c.before, c.requires.0)
 
-add-place : tie.Need-overflow-add-place
-add-place c = omega (arith, one_at_most c.before, c.before.before.before.requires.0)
+offset_bounds-room-place : tie.Need-offset_bounds-room-place
+offset_bounds-room-place c = omega (arith, one_at_most c.before.before, c.requires.0)
 
-mul-t7 : tie.Need-overflow-mul-t7
-mul-t7 c = omega (arith, one_at_most c.before.before, c.before.before.before.before.requires.0)
-
-shared-slice-read-t9 : tie.Need-shared-slice-read-t9
-shared-slice-read-t9 c = omega (arith, one_at_most c.before.before.before, c.before.before.before.before.before.requires.0, c.before.before.before.before.before.requires.1)
+bounds-room-place : tie.Need-bounds-room-place
+bounds-room-place c = omega (arith, one_at_most c.before.before.before, c.requires.0, c.requires.1)
 
 returns : tie.Need-returns
 returns c =
-    let x = c.before.before.before.before.before.args.s in
+    let x = c.args.s in
     record {
-      goes = λ e. (ap (λ (n : ℕ). x.place + n) (c.before.before.before.pick.ensures.0 e), c.before.pick2.ensures.0 e);
-      stays = λ e. (omega (arith, c.before.before.before.pick.ensures.1 e), c.before.pick2.ensures.1 e);
+      goes = λ e. (ap (λ (n : ℕ). x.place + n) (c.pick-step.ensures.0 e), c.pick.ensures.0 e);
+      stays = λ e. (omega (arith, c.pick-step.ensures.1 e), c.pick.ensures.1 e);
       next = refl;
     }
 
-pub passed-spec : {M : Type 1} → statement M
-passed-spec = tie.close (tie.spec pick-requires add-place pick-requires-2 mul-t7 shared-slice-read-t9 returns)
+pub passed_spec : {M : Type 1} → statement M
+passed_spec =
+    tie.close
+    (tie.spec
+    pick-step-requires
+    overflow_add-place
+    pick-requires
+    offset_bounds-room-place
+    bounds-room-place
+    returns)

@@ -6,20 +6,20 @@ use Rattle.printing.specs.LaidLaws.{wrote_then, wrote_length}
 use Rattle.printing.proofs.answer_lines.Statement.{statement}
 use Rattle.printing.proofs.answer_lines.Tie as tie
 
-add-found : tie.Need-overflow-add-found
-add-found c = omega arith
+overflow_add-found : tie.Need-overflow_add-found
+overflow_add-found c = omega arith
 
-mul-found : tie.Need-overflow-mul-found
-mul-found c = omega arith
+offset_bounds-row-from : tie.Need-offset_bounds-row-from
+offset_bounds-row-from c = omega arith
 
-shared-slice-read-found : tie.Need-shared-slice-read-found
-shared-slice-read-found c = omega arith
+bounds-row-from : tie.Need-bounds-row-from
+bounds-row-from c = omega arith
 
-mul_wide : tie.Need-overflow-mul-wide
-mul_wide c = omega arith
+offset_bounds-row-from-2 : tie.Need-offset_bounds-row-from-2
+offset_bounds-row-from-2 c = omega arith
 
-shared-slice-read-wide : tie.Need-shared-slice-read-wide
-shared-slice-read-wide c = omega arith
+bounds-row-from-2 : tie.Need-bounds-row-from-2
+bounds-row-from-2 c = omega arith
 
 wide-requires : tie.Need-wide-requires
 wide-requires c κs = omega arith
@@ -27,60 +27,58 @@ wide-requires c κs = omega arith
 wide-requires-2 : tie.Need-wide-requires-2
 wide-requires-2 c κs = omega arith
 
-add_wide : tie.Need-overflow-add-wide
-add_wide c = omega arith
+overflow_add-from : tie.Need-overflow_add-from
+overflow_add-from c = omega arith
 
-mul-wide-2 : tie.Need-overflow-mul-wide-2
-mul-wide-2 c = omega arith
+offset_bounds-row-from-3 : tie.Need-offset_bounds-row-from-3
+offset_bounds-row-from-3 c = omega arith
 
-shared-slice-read-wide-2 : tie.Need-shared-slice-read-wide-2
-shared-slice-read-wide-2 c = omega arith
+bounds-row-from-3 : tie.Need-bounds-row-from-3
+bounds-row-from-3 c = omega arith
 
 wide-requires-3 : tie.Need-wide-requires-3
 wide-requires-3 c κs = omega arith
 
-first-line-requires : tie.Need-first-line-requires
-first-line-requires c κs = omega arith
+first_line-rows-requires : tie.Need-first_line-rows-requires
+first_line-rows-requires c κs = omega arith
 
-add-row-lines : tie.Need-overflow-add-row-lines
-add-row-lines c = omega arith
+overflow_add-from-2 : tie.Need-overflow_add-from-2
+overflow_add-from-2 c = omega arith
 
-cast-row-lines : tie.Need-overflow-cast-row-lines
-cast-row-lines c = omega arith
+overflow_cast-found : tie.Need-overflow_cast-found
+overflow_cast-found c = omega arith
 
-row-lines-requires : tie.Need-row-lines-requires
-row-lines-requires c κs =
-    let l = c.before.before.before.before in
-    omega (arith, first_length l.before.before.before.wide.result l.before.before.wide2.result l.wide3.result)
+row_lines-requires : tie.Need-row_lines-requires
+row_lines-requires c κs =
+    omega (arith, first_length c.wide.result c.wide-2.result c.wide-3.result)
 
 returns : tie.Need-returns
 unfolding answer_lines
 returns c =
-    let l = c.before.before.before.before.before.before in
-    let w = rw (l.before.before.before.before.wide.ensures, l.before.before.before.wide2.ensures, l.before.wide3.ensures) at l.first-line.ensures in
-    wrote_then w c.before.before.row-lines.ensures
+    let w = rw (c.wide.ensures, c.wide-2.ensures, c.wide-3.ensures) at c.first_line-rows.ensures in
+    wrote_then w c.row_lines.ensures
 
-same_length : tie.Need-same-length
-same_length c = wrote_length (returns c)
+shape_of-out : tie.Need-shape_of-out
+shape_of-out c = wrote_length (returns c)
 
-pub answer-lines-spec : {M : Type 1} → statement M
-answer-lines-spec =
+pub answer_lines_spec : {M : Type 1} → statement M
+answer_lines_spec =
     tie.close
     (tie.spec
-    add-found
-    mul-found
-    shared-slice-read-found
-    mul_wide
-    shared-slice-read-wide
+    overflow_add-found
+    offset_bounds-row-from
+    bounds-row-from
+    offset_bounds-row-from-2
+    bounds-row-from-2
     wide-requires
     wide-requires-2
-    add_wide
-    mul-wide-2
-    shared-slice-read-wide-2
+    overflow_add-from
+    offset_bounds-row-from-3
+    bounds-row-from-3
     wide-requires-3
-    first-line-requires
-    add-row-lines
-    cast-row-lines
-    row-lines-requires
-    same_length
+    first_line-rows-requires
+    overflow_add-from-2
+    overflow_cast-found
+    row_lines-requires
+    shape_of-out
     returns)

@@ -7,75 +7,71 @@ use Rattle.printing.proofs.Queries.{Going, Turn, start, readable, turn, go_on, g
 use Rattle.printing.proofs.answers.Statement.{statement}
 use Rattle.printing.proofs.answers.Tie as tie
 
-abbrev invariant-loop : tie.invariant-loop
-invariant-loop out₀ sheet row query₀ from₀ at₀ out query from at = Going sheet row out₀ query from at out
+abbrev invariant-loop-query : tie.invariant-loop-query
+invariant-loop-query out₀ sheet row query₀ from₀ at₀ out query from at = Going sheet row out₀ query from at out
 
-abbrev decreases-loop : tie.decreases-loop
-decreases-loop out₀ sheet row query₀ from₀ at₀ out query from at = length sheet - query
+abbrev decreases-loop-query : tie.decreases-loop-query
+decreases-loop-query out₀ sheet row query₀ from₀ at₀ out query from at = length sheet - query
 
-loop-holds : tie.Need-loop-init invariant-loop decreases-loop
-loop-holds c = start _ _ _ c.before.before.before.requires
+loop-query-init : tie.Need-loop-query-init invariant-loop-query decreases-loop-query
+loop-query-init c = start _ _ _ c.requires
 
-read-requires : tie.Need-read-requires invariant-loop decreases-loop
-read-requires c κs = readable c.before.loop.invariant c.loop-test.true
+read-asked-requires : tie.Need-read-asked-requires invariant-loop-query decreases-loop-query
+read-asked-requires c κs = readable c.loop-query.invariant c.loop-query-test.true
 
 -- what is known of a turn's record, and of its stretch
-turned : (c : tie.After-read invariant-loop decreases-loop) →
-    let l = c.before.before in
-    let given = l.before.before.before.before.args in
-    Turn given.sheet.now given.row.now l.loop.query l.loop.from l.loop.at c.read.result
-turned c = turn c.before.before.loop.invariant c.before.loop-test.true c.read.result c.read.ensures
+turned : (c : tie.After-read-asked invariant-loop-query decreases-loop-query) →
+    let given = c.args in
+    Turn given.sheet.now given.row.now c.loop-query.query c.loop-query.from c.loop-query.at c.read-asked.result
+turned c = turn c.loop-query.invariant c.loop-query-test.true c.read-asked.result c.read-asked.ensures
 
-answer-lines-requires : tie.Need-answer-lines-requires invariant-loop decreases-loop
-answer-lines-requires c κs = omega (arith, turned c.before)
+answer_lines-at-requires : tie.Need-answer_lines-at-requires invariant-loop-query decreases-loop-query
+answer_lines-at-requires c κs = omega (arith, turned c.before)
 
-mul-query : tie.Need-overflow-mul-query invariant-loop decreases-loop
-mul-query c = omega (arith, turned c.before.before.before.before.before)
+overflow_mul-query : tie.Need-overflow_mul-query invariant-loop-query decreases-loop-query
+overflow_mul-query c = omega (arith, turned c.before.before.before.before.before)
 
-add-query : tie.Need-overflow-add-query invariant-loop decreases-loop
-add-query c = omega (arith, turned c.before.before.before.before.before.before)
+overflow_add-query : tie.Need-overflow_add-query invariant-loop-query decreases-loop-query
+overflow_add-query c = omega (arith, turned c.before.before.before.before.before.before)
 
-mul-from : tie.Need-overflow-mul-from invariant-loop decreases-loop
-mul-from c = omega (arith, turned c.before.before.before.before.before.before.before)
+overflow_mul-from : tie.Need-overflow_mul-from invariant-loop-query decreases-loop-query
+overflow_mul-from c = omega (arith, turned c.before.before.before.before.before.before.before)
 
-add-from : tie.Need-overflow-add-from invariant-loop decreases-loop
-add-from c = omega (arith, turned c.before.before.before.before.before.before.before)
+overflow_add-from : tie.Need-overflow_add-from invariant-loop-query decreases-loop-query
+overflow_add-from c = omega (arith, turned c.before.before.before.before.before.before.before)
 
-add-from-2 : tie.Need-overflow-add-from-2 invariant-loop decreases-loop
-add-from-2 c =
-    let r = c.before.before.before.before.before.before.before in
-    omega (arith, turned r, r.before.before.before.before.before.before.well-formed)
+overflow_add-from-in-loop-query : tie.Need-overflow_add-from-in-loop-query invariant-loop-query decreases-loop-query
+overflow_add-from-in-loop-query c =
+    omega (arith, turned c.before.before.before.before.before.before.before, c.well_formed)
 
-loop-less : tie.Need-loop-smaller invariant-loop decreases-loop
-loop-less c = omega (arith, turned c.before.before.before.before.before.before.before)
+loop-query-smaller : tie.Need-loop-query-smaller invariant-loop-query decreases-loop-query
+loop-query-smaller c = omega (arith, turned c.before.before.before.before.before.before.before)
 
-loop-again : tie.Need-loop-preserved invariant-loop decreases-loop
-loop-again c =
-    let lines = c.before.before.before.before.before in
-    let r = lines.before.before in
-    go_on r.before.before.loop.invariant r.before.loop-test.true r.read.result r.read.ensures lines.answer-lines.ensures
+loop-query-preserved : tie.Need-loop-query-preserved invariant-loop-query decreases-loop-query
+loop-query-preserved c =
+    go_on c.loop-query.invariant c.loop-query-test.true c.read-asked.result c.read-asked.ensures c.answer_lines-at.ensures
 
-same_length : tie.Need-same-length invariant-loop decreases-loop
-same_length c = wrote_length c.before.loop.invariant.wrote
+shape_of-out : tie.Need-shape_of-out invariant-loop-query decreases-loop-query
+shape_of-out c = wrote_length c.loop-query.invariant.wrote
 
-returns : tie.Need-returns invariant-loop decreases-loop
-returns c = gone c.before.loop.invariant c.loop-test.false
+returns : tie.Need-returns invariant-loop-query decreases-loop-query
+returns c = gone c.loop-query.invariant c.loop-query-test.false
 
-pub answers-spec : {M : Type 1} → statement M
-answers-spec =
+pub answers_spec : {M : Type 1} → statement M
+answers_spec =
     tie.close
     (tie.spec
-    invariant-loop
-    decreases-loop
-    loop-holds
-    read-requires
-    answer-lines-requires
-    mul-query
-    add-query
-    mul-from
-    add-from
-    add-from-2
-    loop-less
-    loop-again
-    same_length
+    invariant-loop-query
+    decreases-loop-query
+    loop-query-init
+    read-asked-requires
+    answer_lines-at-requires
+    overflow_mul-query
+    overflow_add-query
+    overflow_mul-from
+    overflow_add-from
+    overflow_add-from-in-loop-query
+    loop-query-smaller
+    loop-query-preserved
+    shape_of-out
     returns)

@@ -3,17 +3,23 @@ use Rattle.printing.specs.DecideLaws.{no_file, too_large, odd_sheet, go_on}
 use Rattle.printing.proofs.decide.Statement.{statement}
 use Rattle.printing.proofs.decide.Tie as tie
 
+returns-then-index_there-sheet_there : tie.Need-returns-then-index_there-sheet_there
+returns-then-index_there-sheet_there c = no_file _ _ _ _ c.if-index_there-sheet_there.true
+
+returns-then-index_bytes-sheet_bytes : tie.Need-returns-then-index_bytes-sheet_bytes
+returns-then-index_bytes-sheet_bytes c = too_large _ _ _ _ c.if-index_there-sheet_there.false c.if-index_bytes-sheet_bytes.true
+
+returns-then-sheet_bytes-ne0 : tie.Need-returns-then-sheet_bytes-ne0
+returns-then-sheet_bytes-ne0 c = odd_sheet _ _ _ _ c.if-index_there-sheet_there.false c.if-index_bytes-sheet_bytes.false c.if-sheet_bytes-ne0.true
+
 returns : tie.Need-returns
-returns c = no_file _ _ _ _ c.if1.true
+returns c = go_on _ _ _ _ c.if-index_there-sheet_there.false c.if-index_bytes-sheet_bytes.false c.if-sheet_bytes-ne0.false
 
-returns-2 : tie.Need-returns-2
-returns-2 c = too_large _ _ _ _ c.before.if1.false c.if2.true
-
-returns-3 : tie.Need-returns-3
-returns-3 c = odd_sheet _ _ _ _ c.before.before.if1.false c.before.if2.false c.if3.true
-
-returns-4 : tie.Need-returns-4
-returns-4 c = go_on _ _ _ _ c.before.before.if1.false c.before.if2.false c.if3.false
-
-pub decide-spec : {M : Type 1} → statement M
-decide-spec = tie.close (tie.spec returns returns-2 returns-3 returns-4)
+pub decide_spec : {M : Type 1} → statement M
+decide_spec =
+    tie.close
+    (tie.spec
+    returns-then-index_there-sheet_there
+    returns-then-index_bytes-sheet_bytes
+    returns-then-sheet_bytes-ne0
+    returns)

@@ -6,79 +6,67 @@ use Rattle.printing.specs.LaidLaws.{wrote_none, wrote_length}
 use Rattle.printing.proofs.decision_line.Statement.{statement}
 use Rattle.printing.proofs.decision_line.Tie as tie
 
-enum_told : tie.Need-enum-told
-enum_told c = search rules
-
-slice-aggregate-words : tie.Need-slice-aggregate-words
-slice-aggregate-words c = search rules
+enum_told-1 : tie.Need-enum_told-1
+enum_told-1 c = search rules
 
 words-requires : tie.Need-words-requires
 words-requires c κs = omega arith
 
-enum-told-2 : tie.Need-enum-told-2
-enum-told-2 c = search rules
+enum_told-in-TooLarge : tie.Need-enum_told-in-TooLarge
+enum_told-in-TooLarge c = search rules
 
-slice-aggregate-words-2 : tie.Need-slice-aggregate-words-2
-slice-aggregate-words-2 c = search rules
+words-requires-in-TooLarge : tie.Need-words-requires-in-TooLarge
+words-requires-in-TooLarge c κs = omega arith
 
-words-requires-2 : tie.Need-words-requires-2
-words-requires-2 c κs = omega arith
+enum_told-in-OddSheet : tie.Need-enum_told-in-OddSheet
+enum_told-in-OddSheet c = search rules
 
-enum-told-3 : tie.Need-enum-told-3
-enum-told-3 c = search rules
+words-requires-in-OddSheet : tie.Need-words-requires-in-OddSheet
+words-requires-in-OddSheet c κs = omega arith
 
-slice-aggregate-words-3 : tie.Need-slice-aggregate-words-3
-slice-aggregate-words-3 c = search rules
+enum_told-in-Go : tie.Need-enum_told-in-Go
+enum_told-in-Go c = search rules
 
-words-requires-3 : tie.Need-words-requires-3
-words-requires-3 c κs = omega arith
-
-enum-told-4 : tie.Need-enum-told-4
-enum-told-4 c = search rules
-
-returns : tie.Need-returns
+returns-in-NoFile : tie.Need-returns-in-NoFile
 unfolding decision_line
-returns c = rw c.before.before.before.before.before.enum_told.given.1 c.before.before.words.ensures
+returns-in-NoFile c = rw c.in-NoFile.is c.words.ensures
 
-same_length : tie.Need-same-length
-same_length c = wrote_length (returns c)
+shape_of-out-in-NoFile : tie.Need-shape_of-out-in-NoFile
+shape_of-out-in-NoFile c = wrote_length (returns-in-NoFile c)
 
-returns-2 : tie.Need-returns-2
+returns-in-TooLarge : tie.Need-returns-in-TooLarge
 unfolding decision_line
-returns-2 c = rw c.before.before.before.before.before.enum-told2.given.1 c.before.before.words2.ensures
+returns-in-TooLarge c = rw c.in-TooLarge.is c.words-in-TooLarge.ensures
 
-same-length-2 : tie.Need-same-length-2
-same-length-2 c = wrote_length (returns-2 c)
+shape_of-out-in-TooLarge : tie.Need-shape_of-out-in-TooLarge
+shape_of-out-in-TooLarge c = wrote_length (returns-in-TooLarge c)
 
-returns-3 : tie.Need-returns-3
+returns-in-OddSheet : tie.Need-returns-in-OddSheet
 unfolding decision_line
-returns-3 c = rw c.before.before.before.before.before.enum-told3.given.1 c.before.before.words3.ensures
+returns-in-OddSheet c = rw c.in-OddSheet.is c.words-in-OddSheet.ensures
 
-same-length-3 : tie.Need-same-length-3
-same-length-3 c = wrote_length (returns-3 c)
+shape_of-out-in-OddSheet : tie.Need-shape_of-out-in-OddSheet
+shape_of-out-in-OddSheet c = wrote_length (returns-in-OddSheet c)
 
-returns-4 : tie.Need-returns-4
+returns-in-Go : tie.Need-returns-in-Go
 unfolding decision_line
-returns-4 c = rw c.enum-told4.given.1 (wrote_none 0 _)
+returns-in-Go c = rw c.in-Go.is (wrote_none 0 _)
 
-pub decision-line-spec : {M : Type 1} → statement M
-decision-line-spec =
+pub decision_line_spec : {M : Type 1} → statement M
+decision_line_spec =
     tie.close
     (tie.spec
-    enum_told
-    slice-aggregate-words
+    enum_told-1
     words-requires
-    enum-told-2
-    slice-aggregate-words-2
-    words-requires-2
-    enum-told-3
-    slice-aggregate-words-3
-    words-requires-3
-    enum-told-4
-    same_length
-    returns
-    same-length-2
-    returns-2
-    same-length-3
-    returns-3
-    returns-4)
+    enum_told-in-TooLarge
+    words-requires-in-TooLarge
+    enum_told-in-OddSheet
+    words-requires-in-OddSheet
+    enum_told-in-Go
+    shape_of-out-in-NoFile
+    returns-in-NoFile
+    shape_of-out-in-TooLarge
+    returns-in-TooLarge
+    shape_of-out-in-OddSheet
+    returns-in-OddSheet
+    returns-in-Go)

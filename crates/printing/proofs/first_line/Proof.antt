@@ -6,26 +6,29 @@ use Rattle.printing.specs.LaidLaws.{wrote_then, wrote_length}
 use Rattle.printing.proofs.first_line.Statement.{statement}
 use Rattle.printing.proofs.first_line.Tie as tie
 
-decimal-requires : tie.Need-decimal-requires
-decimal-requires c κs = omega arith
+decimal-space-requires : tie.Need-decimal-space-requires
+decimal-space-requires c κs = omega arith
 
-put-requires : tie.Need-put-requires
-put-requires c κs = omega (arith, decimal_length c.before.before.before.before.before.before.args.a)
+put-rest-requires : tie.Need-put-rest-requires
+put-rest-requires c κs = omega (arith, decimal_length c.args.a)
 
-pair-line-requires : tie.Need-pair-line-requires
-pair-line-requires c κs = omega (arith, decimal_length c.before.before.before.before.before.before.before.before.before.before.args.a)
+pair_line-requires : tie.Need-pair_line-requires
+pair_line-requires c κs = omega (arith, decimal_length c.args.a)
 
 returns : tie.Need-returns
 unfolding first_line
 returns c =
-    let space = c.before.before.before.before.before.before in
-    let first = space.before.before.before.before in
-    wrote_then (wrote_then first.decimal.ensures space.put.ensures) c.before.before.pair_line.ensures
+    wrote_then (wrote_then c.decimal-space.ensures c.put-rest.ensures) c.pair_line.ensures
 
-same_length : tie.Need-same-length
-same_length c = wrote_length (returns c)
+shape_of-out : tie.Need-shape_of-out
+shape_of-out c = wrote_length (returns c)
 
-pub first-line-spec : {M : Type 1} → statement M
-first-line-spec =
+pub first_line_spec : {M : Type 1} → statement M
+first_line_spec =
     tie.close
-    (tie.spec decimal-requires put-requires pair-line-requires same_length returns)
+    (tie.spec
+    decimal-space-requires
+    put-rest-requires
+    pair_line-requires
+    shape_of-out
+    returns)

@@ -9,100 +9,100 @@ use Rattle.printing.specs.NumbersLaws.{numbers_turn, numbers_keep}
 use Rattle.printing.proofs.numbers.Statement.{statement}
 use Rattle.printing.proofs.numbers.Tie as tie
 
-abbrev invariant-loop : tie.invariant-loop
-invariant-loop bytes out₀ n i₀ out i =
+abbrev invariant-loop-i : tie.invariant-loop-i
+invariant-loop-i bytes out₀ n i₀ out i =
     (i ≤ n) × (n ≡ min (length bytes / 4) (length out₀)) × (out ≡ front (take i (numbers_of bytes)) i out₀)
 
-abbrev decreases-loop : tie.decreases-loop
-decreases-loop bytes out₀ n i₀ out i = n - i
+abbrev decreases-loop-i : tie.decreases-loop-i
+decreases-loop-i bytes out₀ n i₀ out i = n - i
 
-kept : (c : tie.At-loop invariant-loop decreases-loop) → length c.loop.out ≡ length c.before.before.before.before.args.out.now
+kept : (c : tie.At-loop-i invariant-loop-i decreases-loop-i) → length c.loop-i.out ≡ length c.args.out.now
 kept c =
-    rw c.loop.invariant.2
-    (numbers_keep c.before.before.before.before.args.bytes.now c.before.before.before.before.args.out.now c.loop.i (omega arith) (omega arith))
+    rw c.loop-i.invariant.2
+    (numbers_keep c.args.bytes.now c.args.out.now c.loop-i.i (omega arith) (omega arith))
 
-least-requires : tie.Need-least-requires invariant-loop decreases-loop
-least-requires c κs = omega arith
+least-n-requires : tie.Need-least-n-requires invariant-loop-i decreases-loop-i
+least-n-requires c κs = omega arith
 
-loop-holds : tie.Need-loop-init invariant-loop decreases-loop
-loop-holds c = (omega arith, c.least.ensures, refl)
+loop-i-init : tie.Need-loop-i-init invariant-loop-i decreases-loop-i
+loop-i-init c = (omega arith, c.least-n.ensures, refl)
 
-mul_at : tie.Need-overflow-mul-at invariant-loop decreases-loop
-mul_at c = omega arith
+overflow_mul-at : tie.Need-overflow_mul-at invariant-loop-i decreases-loop-i
+overflow_mul-at c = omega arith
 
-shared-slice-read-four-bytes : tie.Need-shared-slice-read-four-bytes invariant-loop decreases-loop
-shared-slice-read-four-bytes c = omega arith
+bounds-bytes-at : tie.Need-bounds-bytes-at invariant-loop-i decreases-loop-i
+bounds-bytes-at c = omega arith
 
-add-four-bytes : tie.Need-overflow-add-four-bytes invariant-loop decreases-loop
-add-four-bytes c = omega arith
+overflow_add-at : tie.Need-overflow_add-at invariant-loop-i decreases-loop-i
+overflow_add-at c = omega arith
 
-shared-slice-read-four-bytes-2 : tie.Need-shared-slice-read-four-bytes-2 invariant-loop decreases-loop
-shared-slice-read-four-bytes-2 c = omega arith
+bounds-bytes-at-in-loop-i : tie.Need-bounds-bytes-at-in-loop-i invariant-loop-i decreases-loop-i
+bounds-bytes-at-in-loop-i c = omega arith
 
-add-four-bytes-2 : tie.Need-overflow-add-four-bytes-2 invariant-loop decreases-loop
-add-four-bytes-2 c = omega arith
+overflow_add-at-in-loop-i : tie.Need-overflow_add-at-in-loop-i invariant-loop-i decreases-loop-i
+overflow_add-at-in-loop-i c = omega arith
 
-shared-slice-read-four-bytes-3 : tie.Need-shared-slice-read-four-bytes-3 invariant-loop decreases-loop
-shared-slice-read-four-bytes-3 c = omega arith
+bounds-bytes-at-in-loop-i-2 : tie.Need-bounds-bytes-at-in-loop-i-2 invariant-loop-i decreases-loop-i
+bounds-bytes-at-in-loop-i-2 c = omega arith
 
-add-four-bytes-3 : tie.Need-overflow-add-four-bytes-3 invariant-loop decreases-loop
-add-four-bytes-3 c = omega arith
+overflow_add-at-in-loop-i-2 : tie.Need-overflow_add-at-in-loop-i-2 invariant-loop-i decreases-loop-i
+overflow_add-at-in-loop-i-2 c = omega arith
 
-shared-slice-read-four-bytes-4 : tie.Need-shared-slice-read-four-bytes-4 invariant-loop decreases-loop
-shared-slice-read-four-bytes-4 c = omega arith
+bounds-bytes-at-in-loop-i-3 : tie.Need-bounds-bytes-at-in-loop-i-3 invariant-loop-i decreases-loop-i
+bounds-bytes-at-in-loop-i-3 c = omega arith
 
-four-bytes-requires : tie.Need-four-bytes-requires invariant-loop decreases-loop
-four-bytes-requires c κs = omega arith
+four_bytes-requires : tie.Need-four_bytes-requires invariant-loop-i decreases-loop-i
+four_bytes-requires c κs = omega arith
 
-mul-out : tie.Need-overflow-mul-out invariant-loop decreases-loop
-mul-out c = omega arith
+offset_bounds-out-i : tie.Need-offset_bounds-out-i invariant-loop-i decreases-loop-i
+offset_bounds-out-i c = omega arith
 
-slice-write-out : tie.Need-slice-write-out invariant-loop decreases-loop
-slice-write-out c = omega (arith, kept c.before.before.before.before.before.before)
+bounds-out-i : tie.Need-bounds-out-i invariant-loop-i decreases-loop-i
+bounds-out-i c = omega (arith, kept c.before.before.before.before.before.before)
 
-add-i : tie.Need-overflow-add-i invariant-loop decreases-loop
-add-i c = omega arith
+overflow_add-i : tie.Need-overflow_add-i invariant-loop-i decreases-loop-i
+overflow_add-i c = omega arith
 
-loop-less : tie.Need-loop-smaller invariant-loop decreases-loop
-loop-less c = omega arith
+loop-i-smaller : tie.Need-loop-i-smaller invariant-loop-i decreases-loop-i
+loop-i-smaller c = omega arith
 
-loop-again : tie.Need-loop-preserved invariant-loop decreases-loop
-loop-again c =
-    let l = c.before.before.before.before.before.before.loop in
-    let bytes = c.before.before.before.before.before.before.before.before.before.before.args.bytes.now in
-    let out = c.before.before.before.before.before.before.before.before.before.before.args.out.now in
+loop-i-preserved : tie.Need-loop-i-preserved invariant-loop-i decreases-loop-i
+loop-i-preserved c =
+    let l = c.loop-i in
+    let bytes = c.args.bytes.now in
+    let out = c.args.out.now in
     (omega arith, l.invariant.1, rw c.four_bytes.ensures (numbers_turn bytes out l.i l.out (omega arith) (omega arith) l.invariant.2))
 
-same_length : tie.Need-same-length invariant-loop decreases-loop
-same_length c = kept c.before
+shape_of-out : tie.Need-shape_of-out invariant-loop-i decreases-loop-i
+shape_of-out c = kept c.before
 
-returns : tie.Need-returns invariant-loop decreases-loop
+returns : tie.Need-returns invariant-loop-i decreases-loop-i
 returns c =
-    let l = c.before.loop in
-    let all : l.i ≡ c.before.before.least.result = omega arith in
+    let l = c.loop-i in
+    let all : l.i ≡ c.least-n.result = omega arith in
     record { count_is = l.invariant.1; row_is = rw all at l.invariant.2 }
 
-pub numbers-spec : {M : Type 1} → statement M
-numbers-spec =
+pub numbers_spec : {M : Type 1} → statement M
+numbers_spec =
     tie.close
     (tie.spec
-    invariant-loop
-    decreases-loop
-    least-requires
-    loop-holds
-    mul_at
-    shared-slice-read-four-bytes
-    add-four-bytes
-    shared-slice-read-four-bytes-2
-    add-four-bytes-2
-    shared-slice-read-four-bytes-3
-    add-four-bytes-3
-    shared-slice-read-four-bytes-4
-    four-bytes-requires
-    mul-out
-    slice-write-out
-    add-i
-    loop-less
-    loop-again
-    same_length
+    invariant-loop-i
+    decreases-loop-i
+    least-n-requires
+    loop-i-init
+    overflow_mul-at
+    bounds-bytes-at
+    overflow_add-at
+    bounds-bytes-at-in-loop-i
+    overflow_add-at-in-loop-i
+    bounds-bytes-at-in-loop-i-2
+    overflow_add-at-in-loop-i-2
+    bounds-bytes-at-in-loop-i-3
+    four_bytes-requires
+    offset_bounds-out-i
+    bounds-out-i
+    overflow_add-i
+    loop-i-smaller
+    loop-i-preserved
+    shape_of-out
     returns)

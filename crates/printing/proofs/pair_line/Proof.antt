@@ -6,32 +6,35 @@ use Rattle.printing.specs.LaidLaws.{wrote_then, wrote_length}
 use Rattle.printing.proofs.pair_line.Statement.{statement}
 use Rattle.printing.proofs.pair_line.Tie as tie
 
-decimal-requires : tie.Need-decimal-requires
-decimal-requires c κs = omega arith
+decimal-space-requires : tie.Need-decimal-space-requires
+decimal-space-requires c κs = omega arith
+
+put-second-requires : tie.Need-put-second-requires
+put-second-requires c κs = omega (arith, decimal_length c.args.a)
+
+decimal-end-requires : tie.Need-decimal-end-requires
+decimal-end-requires c κs = omega (arith, decimal_length c.args.a)
 
 put-requires : tie.Need-put-requires
-put-requires c κs = omega (arith, decimal_length c.before.before.before.before.before.before.args.a)
-
-decimal-requires-2 : tie.Need-decimal-requires-2
-decimal-requires-2 c κs = omega (arith, decimal_length c.before.before.before.before.before.before.before.before.before.before.args.a)
-
-put-requires-2 : tie.Need-put-requires-2
-put-requires-2 c κs =
-    let given = c.before.before.before.before.before.before.before.before.before.before.before.before.before.before.args in
+put-requires c κs =
+    let given = c.args in
     omega (arith, decimal_length given.a, decimal_length given.b)
 
 returns : tie.Need-returns
 unfolding pair_line
 returns c =
-    let second = c.before.before.before.before.before.before in
-    let space = second.before.before.before.before in
-    let first = space.before.before.before.before in
-    wrote_then (wrote_then (wrote_then first.decimal.ensures space.put.ensures) second.decimal2.ensures) c.before.before.put2.ensures
+    wrote_then (wrote_then (wrote_then c.decimal-space.ensures c.put-second.ensures) c.decimal-end.ensures) c.put.ensures
 
-same_length : tie.Need-same-length
-same_length c = wrote_length (returns c)
+shape_of-out : tie.Need-shape_of-out
+shape_of-out c = wrote_length (returns c)
 
-pub pair-line-spec : {M : Type 1} → statement M
-pair-line-spec =
+pub pair_line_spec : {M : Type 1} → statement M
+pair_line_spec =
     tie.close
-    (tie.spec decimal-requires put-requires decimal-requires-2 put-requires-2 same_length returns)
+    (tie.spec
+    decimal-space-requires
+    put-second-requires
+    decimal-end-requires
+    put-requires
+    shape_of-out
+    returns)

@@ -6,23 +6,24 @@ use Rattle.printing.specs.LaidLaws.{wrote_then, wrote_length}
 use Rattle.printing.proofs.refusal.Statement.{statement}
 use Rattle.printing.proofs.refusal.Tie as tie
 
-slice-aggregate-words : tie.Need-slice-aggregate-words
-slice-aggregate-words c = search rules
+words-at-requires : tie.Need-words-at-requires
+words-at-requires c κs = omega arith
 
-words-requires : tie.Need-words-requires
-words-requires c κs = omega arith
-
-pair-line-requires : tie.Need-pair-line-requires
-pair-line-requires c κs = omega arith
+pair_line-requires : tie.Need-pair_line-requires
+pair_line-requires c κs = omega arith
 
 returns : tie.Need-returns
 unfolding refused_line
-returns c = wrote_then c.before.before.before.before.before.before.words.ensures c.before.before.pair_line.ensures
+returns c = wrote_then c.words-at.ensures c.pair_line.ensures
 
-same_length : tie.Need-same-length
-same_length c = wrote_length (returns c)
+shape_of-out : tie.Need-shape_of-out
+shape_of-out c = wrote_length (returns c)
 
-pub refusal-spec : {M : Type 1} → statement M
-refusal-spec =
+pub refusal_spec : {M : Type 1} → statement M
+refusal_spec =
     tie.close
-    (tie.spec slice-aggregate-words words-requires pair-line-requires same_length returns)
+    (tie.spec
+    words-at-requires
+    pair_line-requires
+    shape_of-out
+    returns)

@@ -9,88 +9,87 @@ use Rattle.printing.specs.LaidLaws.{wrote_none, wrote_then, wrote_length}
 use Rattle.printing.proofs.row_lines.Statement.{statement}
 use Rattle.printing.proofs.row_lines.Tie as tie
 
-abbrev invariant-loop : tie.invariant-loop
-invariant-loop out₀ start row from found at₀ i₀ out at i = (i ≤ found) × Wrote start (row_lines row from i) out₀ out at
+abbrev invariant-loop-i : tie.invariant-loop-i
+invariant-loop-i out₀ start row from found at₀ i₀ out at i = (i ≤ found) × Wrote start (row_lines row from i) out₀ out at
 
-abbrev decreases-loop : tie.decreases-loop
-decreases-loop out₀ start row from found at₀ i₀ out at i = found - i
+abbrev decreases-loop-i : tie.decreases-loop-i
+decreases-loop-i out₀ start row from found at₀ i₀ out at i = found - i
 
-loop-holds : tie.Need-loop-init invariant-loop decreases-loop
+loop-i-init : tie.Need-loop-i-init invariant-loop-i decreases-loop-i
 unfolding row_lines
-loop-holds c = (omega arith, wrote_none _ _)
+loop-i-init c = (omega arith, wrote_none _ _)
 
-mul-here : tie.Need-overflow-mul-here invariant-loop decreases-loop
-mul-here c = omega arith
+overflow_mul-here : tie.Need-overflow_mul-here invariant-loop-i decreases-loop-i
+overflow_mul-here c = omega arith
 
-add-here : tie.Need-overflow-add-here invariant-loop decreases-loop
-add-here c = omega arith
+overflow_add-here : tie.Need-overflow_add-here invariant-loop-i decreases-loop-i
+overflow_add-here c = omega arith
 
-mul_wide : tie.Need-overflow-mul-wide invariant-loop decreases-loop
-mul_wide c = omega arith
+offset_bounds-row-here : tie.Need-offset_bounds-row-here invariant-loop-i decreases-loop-i
+offset_bounds-row-here c = omega arith
 
-shared-slice-read-wide : tie.Need-shared-slice-read-wide invariant-loop decreases-loop
-shared-slice-read-wide c = omega arith
+bounds-row-here : tie.Need-bounds-row-here invariant-loop-i decreases-loop-i
+bounds-row-here c = omega arith
 
-wide-requires : tie.Need-wide-requires invariant-loop decreases-loop
+wide-requires : tie.Need-wide-requires invariant-loop-i decreases-loop-i
 wide-requires c κs = omega arith
 
-add_wide : tie.Need-overflow-add-wide invariant-loop decreases-loop
-add_wide c = omega arith
+overflow_add-here-in-loop-i : tie.Need-overflow_add-here-in-loop-i invariant-loop-i decreases-loop-i
+overflow_add-here-in-loop-i c = omega arith
 
-mul-wide-2 : tie.Need-overflow-mul-wide-2 invariant-loop decreases-loop
-mul-wide-2 c = omega arith
+offset_bounds-row-here-in-loop-i : tie.Need-offset_bounds-row-here-in-loop-i invariant-loop-i decreases-loop-i
+offset_bounds-row-here-in-loop-i c = omega arith
 
-shared-slice-read-wide-2 : tie.Need-shared-slice-read-wide-2 invariant-loop decreases-loop
-shared-slice-read-wide-2 c = omega arith
+bounds-row-here-in-loop-i : tie.Need-bounds-row-here-in-loop-i invariant-loop-i decreases-loop-i
+bounds-row-here-in-loop-i c = omega arith
 
-wide-requires-2 : tie.Need-wide-requires-2 invariant-loop decreases-loop
-wide-requires-2 c κs = omega arith
+wide-requires-in-loop-i : tie.Need-wide-requires-in-loop-i invariant-loop-i decreases-loop-i
+wide-requires-in-loop-i c κs = omega arith
 
-pair-line-requires : tie.Need-pair-line-requires invariant-loop decreases-loop
-pair-line-requires c κs =
-    let l = c.before.before.before.before.before.before.loop in
-    let given = c.before.before.before.before.before.before.before.before.before.args in
+pair_line-at-requires : tie.Need-pair_line-at-requires invariant-loop-i decreases-loop-i
+pair_line-at-requires c κs =
+    let l = c.loop-i in
+    let given = c.args in
     omega (arith, l.invariant.1.next_is, rows_length given.row.now given.from l.i)
 
-add-i : tie.Need-overflow-add-i invariant-loop decreases-loop
-add-i c = omega arith
+overflow_add-i : tie.Need-overflow_add-i invariant-loop-i decreases-loop-i
+overflow_add-i c = omega arith
 
-loop-less : tie.Need-loop-smaller invariant-loop decreases-loop
-loop-less c = omega arith
+loop-i-smaller : tie.Need-loop-i-smaller invariant-loop-i decreases-loop-i
+loop-i-smaller c = omega arith
 
-loop-again : tie.Need-loop-preserved invariant-loop decreases-loop
-loop-again c =
-    let line = c.before.before in
-    let w = rw (line.before.before.before.wide.ensures, line.before.wide2.ensures) at line.pair_line.ensures in
-    (omega arith, rw (← rows_next _ _ _) (wrote_then line.before.before.before.before.before.before.before.loop.invariant.1 w))
+loop-i-preserved : tie.Need-loop-i-preserved invariant-loop-i decreases-loop-i
+loop-i-preserved c =
+    let w = rw (c.wide.ensures, c.wide-in-loop-i.ensures) at c.pair_line-at.ensures in
+    (omega arith, rw (← rows_next _ _ _) (wrote_then c.loop-i.invariant.1 w))
 
-same_length : tie.Need-same-length invariant-loop decreases-loop
-same_length c = wrote_length c.before.loop.invariant.1
+shape_of-out : tie.Need-shape_of-out invariant-loop-i decreases-loop-i
+shape_of-out c = wrote_length c.loop-i.invariant.1
 
-returns : tie.Need-returns invariant-loop decreases-loop
+returns : tie.Need-returns invariant-loop-i decreases-loop-i
 returns c =
-    let all : c.before.loop.i ≡ c.before.before.before.before.args.found = omega arith in
-    rw all at c.before.loop.invariant.1
+    let all : c.loop-i.i ≡ c.args.found = omega arith in
+    rw all at c.loop-i.invariant.1
 
-pub row-lines-spec : {M : Type 1} → statement M
-row-lines-spec =
+pub row_lines_spec : {M : Type 1} → statement M
+row_lines_spec =
     tie.close
     (tie.spec
-    invariant-loop
-    decreases-loop
-    loop-holds
-    mul-here
-    add-here
-    mul_wide
-    shared-slice-read-wide
+    invariant-loop-i
+    decreases-loop-i
+    loop-i-init
+    overflow_mul-here
+    overflow_add-here
+    offset_bounds-row-here
+    bounds-row-here
     wide-requires
-    add_wide
-    mul-wide-2
-    shared-slice-read-wide-2
-    wide-requires-2
-    pair-line-requires
-    add-i
-    loop-less
-    loop-again
-    same_length
+    overflow_add-here-in-loop-i
+    offset_bounds-row-here-in-loop-i
+    bounds-row-here-in-loop-i
+    wide-requires-in-loop-i
+    pair_line-at-requires
+    overflow_add-i
+    loop-i-smaller
+    loop-i-preserved
+    shape_of-out
     returns)

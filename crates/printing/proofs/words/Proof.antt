@@ -10,51 +10,50 @@ use Rattle.printing.specs.LaidLaws.{wrote_none, wrote_then, wrote_length}
 use Rattle.printing.proofs.words.Statement.{statement}
 use Rattle.printing.proofs.words.Tie as tie
 
-abbrev invariant-loop : tie.invariant-loop
-invariant-loop out₀ start bytes at₀ i₀ out at i = (i ≤ length bytes) × (at ≡ start + i) × Wrote start (take i bytes) out₀ out at
+abbrev invariant-loop-i : tie.invariant-loop-i
+invariant-loop-i out₀ start bytes at₀ i₀ out at i = (i ≤ length bytes) × (at ≡ start + i) × Wrote start (take i bytes) out₀ out at
 
-abbrev decreases-loop : tie.decreases-loop
-decreases-loop out₀ start bytes at₀ i₀ out at i = length bytes - i
+abbrev decreases-loop-i : tie.decreases-loop-i
+decreases-loop-i out₀ start bytes at₀ i₀ out at i = length bytes - i
 
-loop-holds : tie.Need-loop-init invariant-loop decreases-loop
-loop-holds c = (omega arith, omega arith, wrote_none _ _)
+loop-i-init : tie.Need-loop-i-init invariant-loop-i decreases-loop-i
+loop-i-init c = (omega arith, omega arith, wrote_none _ _)
 
-shared-slice-read-put : tie.Need-shared-slice-read-put invariant-loop decreases-loop
-shared-slice-read-put c = omega arith
+bounds-bytes-i : tie.Need-bounds-bytes-i invariant-loop-i decreases-loop-i
+bounds-bytes-i c = omega arith
 
-put-requires : tie.Need-put-requires invariant-loop decreases-loop
-put-requires c κs = omega arith
+put-at-requires : tie.Need-put-at-requires invariant-loop-i decreases-loop-i
+put-at-requires c κs = omega arith
 
-add-i : tie.Need-overflow-add-i invariant-loop decreases-loop
-add-i c = omega arith
+overflow_add-i : tie.Need-overflow_add-i invariant-loop-i decreases-loop-i
+overflow_add-i c = omega arith
 
-loop-less : tie.Need-loop-smaller invariant-loop decreases-loop
-loop-less c = omega arith
+loop-i-smaller : tie.Need-loop-i-smaller invariant-loop-i decreases-loop-i
+loop-i-smaller c = omega arith
 
-loop-again : tie.Need-loop-preserved invariant-loop decreases-loop
-loop-again c =
-    let test = c.before.before.before.before.before in
-    let l = test.before.loop in
-    let w = c.before.before.put.ensures in
-    (omega arith, omega (arith, w.next_is), rw (add-one, take-suc {A = ℕ} _ l.i 0 test.loop-test.true) (wrote_then l.invariant.2 w))
+loop-i-preserved : tie.Need-loop-i-preserved invariant-loop-i decreases-loop-i
+loop-i-preserved c =
+    let l = c.loop-i in
+    let w = c.put-at.ensures in
+    (omega arith, omega (arith, w.next_is), rw (add-one, take-suc {A = ℕ} _ l.i 0 c.loop-i-test.true) (wrote_then l.invariant.2 w))
 
-same_length : tie.Need-same-length invariant-loop decreases-loop
-same_length c = wrote_length c.before.loop.invariant.2
+shape_of-out : tie.Need-shape_of-out invariant-loop-i decreases-loop-i
+shape_of-out c = wrote_length c.loop-i.invariant.2
 
-returns : tie.Need-returns invariant-loop decreases-loop
-returns c = rw (take_all _ _ c.loop-test.false) at c.before.loop.invariant.2
+returns : tie.Need-returns invariant-loop-i decreases-loop-i
+returns c = rw (take_all _ _ c.loop-i-test.false) at c.loop-i.invariant.2
 
-pub words-spec : {M : Type 1} → statement M
-words-spec =
+pub words_spec : {M : Type 1} → statement M
+words_spec =
     tie.close
     (tie.spec
-    invariant-loop
-    decreases-loop
-    loop-holds
-    shared-slice-read-put
-    put-requires
-    add-i
-    loop-less
-    loop-again
-    same_length
+    invariant-loop-i
+    decreases-loop-i
+    loop-i-init
+    bounds-bytes-i
+    put-at-requires
+    overflow_add-i
+    loop-i-smaller
+    loop-i-preserved
+    shape_of-out
     returns)

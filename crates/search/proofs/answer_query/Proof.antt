@@ -16,90 +16,85 @@ use Rattle.search.proofs.answer_query.Statement.{statement}
 use Rattle.search.proofs.answer_query.Tie as tie
 
 -- the walk is served with the mentions that were gathered
-served : (c : tie.After-gather) → let a = c.before.before.before.before.args in
-    Served a.image.now c.gather.result a.query.q a.query.k a.docs
+served : (c : tie.After-gather-ms) → let a = c.args in
+    Served a.image.now c.gather-ms.result a.query.q a.query.k a.docs
 served c =
-    let x = c.before.before.before.before in
-    let a = x.args in
-    posed_served a.image.now a.sheet.now a.query a.docs x.requires.0 c.gather.result c.gather.ensures
+    let a = c.args in
+    posed_served a.image.now a.sheet.now a.query a.docs c.requires.0 c.gather-ms.result c.gather-ms.ensures
 
 -- and what it has found is by the query's mode, whichever that is
 found-same :
     {a : Asked} {mode : Mode} {f f' : Found} → a.mode ≡ mode → f ≡ f' → FoundBy (with_mode a mode) f' → FoundBy a f
 found-same m e by = rw (← m, ← e) at by
 
-found-by : (c : tie.At-match-branch) → let a = c.before.before.before.before.before.args in let r = a.query in
-    FoundBy (asked_of a.image.now r.mode c.before.gather.result r.q r.k r.budget a.docs) c.match.found
+found-by : (c : tie.Joined-mode) → let a = c.args in let r = a.query in
+    FoundBy (asked_of a.image.now r.mode c.gather-ms.result r.q r.k r.budget a.docs) c.match-mode.found
 found-by c =
-    let a = c.before.before.before.before.before.args in
+    let a = c.args in
     let r = a.query in
-    let asks = asked_of a.image.now r.mode c.before.gather.result r.q r.k r.budget a.docs in
-    let few = served_length (served c.before) c.before.gather.ensures.size in
+    let asks = asked_of a.image.now r.mode c.gather-ms.result r.q r.k r.budget a.docs in
+    let few = served_length (served c.before) c.gather-ms.ensures.size in
     ⊎_elim
-    (λ w. found-same w.1.given.1 w.3 w.2.ensures)
+    (λ w. found-same w.in-Plain.is w.found-is w.any_term-found.ensures)
     (⊎_elim
-    (λ w. found-same w.1.given.1 w.3 w.2.ensures)
+    (λ w. found-same w.in-Pruned.is w.found-is w.any_term-found-in-Pruned.ensures)
     (⊎_elim
-    (λ w. found-same w.1.given.1 w.4 (one_found asks (omega (arith, few, w.2.taken)) w.3.ensures))
-    (λ w. found-same w.1.given.1 w.4 w.3.ensures)))
-    c.match.branch
+    (λ w. found-same w.in-All.is w.found-is (one_found asks (omega (arith, few, w.if-q-eq1.true)) w.any_term.ensures))
+    (λ w. found-same w.in-All.is w.found-is w.all_term.ensures)))
+    c.match-mode.branch-raw
 
-gather-requires : tie.Need-gather-requires
-gather-requires c κs =
-    let x = c.before.before.before in
-    let a = x.args in
-    (x.requires.0.image, posed_pairs a.image.now a.sheet.now a.query a.docs x.requires.0)
+gather-ms-requires : tie.Need-gather-ms-requires
+gather-ms-requires c κs =
+    let a = c.args in
+    (c.requires.0.image, posed_pairs a.image.now a.sheet.now a.query a.docs c.requires.0)
 
-enum_told : tie.Need-enum-told
-enum_told c = search rules
+enum_told-1 : tie.Need-enum_told-1
+enum_told-1 c = search rules
 
-any-term-requires : tie.Need-any-term-requires
-any-term-requires c κs = served c.before.before
+any_term-found-requires : tie.Need-any_term-found-requires
+any_term-found-requires c κs = served c.before
 
-enum-told-2 : tie.Need-enum-told-2
-enum-told-2 c = search rules
+enum_told-in-Pruned : tie.Need-enum_told-in-Pruned
+enum_told-in-Pruned c = search rules
 
-any-term-requires-2 : tie.Need-any-term-requires-2
-any-term-requires-2 c κs = served c.before.before
+any_term-found-requires-in-Pruned : tie.Need-any_term-found-requires-in-Pruned
+any_term-found-requires-in-Pruned c κs = served c.before
 
-enum-told-3 : tie.Need-enum-told-3
-enum-told-3 c = search rules
+enum_told-in-All : tie.Need-enum_told-in-All
+enum_told-in-All c = search rules
 
-any-term-requires-3 : tie.Need-any-term-requires-3
-any-term-requires-3 c κs = served c.before.before.before
+any_term-requires : tie.Need-any_term-requires
+any_term-requires c κs = served c.before.before
 
-all-term-requires : tie.Need-all-term-requires
-all-term-requires c κs = served c.before.before.before
+all_term-requires : tie.Need-all_term-requires
+all_term-requires c κs = served c.before.before
 
 write-requires : tie.Need-write-requires
 write-requires c κs =
-    let x = c.before.before.before.before.before.before in
-    (x.requires.0.fits.rows.1, (found-by c.before).within, search rules)
+    (c.requires.0.fits.rows.1, (found-by c.before).within, search rules)
 
-same_length : tie.Need-same-length
-same_length c = search rules
+shape_of-out : tie.Need-shape_of-out
+shape_of-out c = search rules
 
 returns : tie.Need-returns
 returns c =
-    let m = c.before.before.before.before in
-    let g = m.before.gather in
-    let x = m.before.before.before.before.before in
-    let a = x.args in
-    c.before.before.write.ensures
-    ∙ posed_answer a.image.now a.sheet.now a.query a.docs x.requires.0 g.result g.ensures m.match.found (found-by m)
+    let g = c.gather-ms in
+    let a = c.args in
+    c.write.ensures
+    ∙ posed_answer a.image.now a.sheet.now a.query a.docs c.requires.0 g.result g.ensures c.match-mode.found (found-by c.before.before.before.before)
 
-pub answer-query-spec : {M : Type 1} → statement M
-answer-query-spec =
+pub answer_query_spec : {M : Type 1} → statement M
+answer_query_spec =
     tie.close
     (tie.spec
-    gather-requires
-    enum_told
-    any-term-requires
-    enum-told-2
-    any-term-requires-2
-    enum-told-3
-    any-term-requires-3
-    all-term-requires
+    gather-ms-requires
+    enum_told-1
+    any_term-found-requires
+    enum_told-in-Pruned
+    any_term-found-requires-in-Pruned
+    enum_told-in-All
+    any_term-requires
+    all_term-requires
     write-requires
-    same_length
+    shape_of-out
     returns)

@@ -8,37 +8,37 @@ use Rattle.sheet.proofs.Laws.{in_range, out_of_range, no_number, count_off, coun
 use Rattle.sheet.proofs.judge.Statement.{statement}
 use Rattle.sheet.proofs.judge.Tie as tie
 
-returns : tie.Need-returns
-returns c = no_number _ _ c.if1.true
+returns-then-sheet-eq0 : tie.Need-returns-then-sheet-eq0
+returns-then-sheet-eq0 c = no_number _ _ c.if-sheet-eq0.true
 
-shared-slice-read-n : tie.Need-shared-slice-read-n
-shared-slice-read-n c = search rules
+bounds-sheet-0 : tie.Need-bounds-sheet-0
+bounds-sheet-0 c = search rules
 
-is-within-requires : tie.Need-is-within-requires
-is-within-requires c κs = search rules
+is_within-requires : tie.Need-is_within-requires
+is_within-requires c κs = search rules
 
-returns-2 : tie.Need-returns-2
-returns-2 c = count_off _ _ (out_of_range _ _ c.before.is_Within.ensures c.if2.true)
+returns-then-not-is_within : tie.Need-returns-then-not-is_within
+returns-then-not-is_within c = count_off _ _ (out_of_range _ _ c.is_within.ensures c.if-not-is_within.true-raw)
 
 wide-requires : tie.Need-wide-requires
 wide-requires c κs = search rules
 
 queries-requires : tie.Need-queries-requires
 queries-requires c κs =
-    let n = get_or c.before.before.before.before.before.before.args.sheet.now 0 0 in
-    omega (arith, within_true 1 64 n (in_range _ _ c.before.before.is_Within.ensures c.before.if2.false))
+    let n = get_or c.args.sheet.now 0 0 in
+    omega (arith, within_true 1 64 n (in_range _ _ c.is_within.ensures c.if-not-is_within.false-raw))
 
-returns-3 : tie.Need-returns-3
-returns-3 c = c.queries.ensures ∙ count_fine _ _ _ c.before.wide.ensures (in_range _ _ c.before.before.before.is_Within.ensures c.before.before.if2.false)
+returns : tie.Need-returns
+returns c = c.queries.ensures ∙ count_fine _ _ _ c.wide.ensures (in_range _ _ c.is_within.ensures c.if-not-is_within.false-raw)
 
-pub judge-spec : {M : Type 1} → statement M
-judge-spec =
+pub judge_spec : {M : Type 1} → statement M
+judge_spec =
     tie.close
     (tie.spec
-    returns
-    shared-slice-read-n
-    is-within-requires
-    returns-2
+    returns-then-sheet-eq0
+    bounds-sheet-0
+    is_within-requires
+    returns-then-not-is_within
     wide-requires
     queries-requires
-    returns-3)
+    returns)

@@ -3,14 +3,19 @@ use Rattle.sheet.proofs.Laws.{mode_plain, mode_pruned, mode_all}
 use Rattle.sheet.proofs.mode_of.Statement.{statement}
 use Rattle.sheet.proofs.mode_of.Tie as tie
 
+returns-then-number-eq0 : tie.Need-returns-then-number-eq0
+returns-then-number-eq0 c = mode_plain _ c.if-number-eq0.true
+
+returns-then-number-eq1 : tie.Need-returns-then-number-eq1
+returns-then-number-eq1 c = mode_pruned _ c.if-number-eq1.true
+
 returns : tie.Need-returns
-returns c = mode_plain _ c.if1.true
+returns c = mode_all _ c.if-number-eq0.false c.if-number-eq1.false
 
-returns-2 : tie.Need-returns-2
-returns-2 c = mode_pruned _ c.if2.true
-
-returns-3 : tie.Need-returns-3
-returns-3 c = mode_all _ c.before.if1.false c.if2.false
-
-pub mode-of-spec : {M : Type 1} → statement M
-mode-of-spec = tie.close (tie.spec returns returns-2 returns-3)
+pub mode_of_spec : {M : Type 1} → statement M
+mode_of_spec =
+    tie.close
+    (tie.spec
+    returns-then-number-eq0
+    returns-then-number-eq1
+    returns)

@@ -10,86 +10,83 @@ use Rattle.sheet.proofs.Laws.{in_range, out_of_range, term_off, weight_off, pair
 use Rattle.sheet.proofs.pairs.Statement.{statement}
 use Rattle.sheet.proofs.pairs.Tie as tie
 
-abbrev invariant-loop : tie.invariant-loop
-invariant-loop sheet terms i start e at₀ left₀ at left =
+abbrev invariant-loop-left : tie.invariant-loop-left
+invariant-loop-left sheet terms i start e at₀ left₀ at left =
     (at + 2 * left ≤ length sheet) × (fairly e (pairs_at sheet terms i at left) ≡ fairly e (pairs_at sheet terms i start e.q))
 
-abbrev decreases-loop : tie.decreases-loop
-decreases-loop sheet terms i start e at₀ left₀ at left = left
+abbrev decreases-loop-left : tie.decreases-loop-left
+decreases-loop-left sheet terms i start e at₀ left₀ at left = left
 
-loop-holds : tie.Need-loop-init invariant-loop decreases-loop
-loop-holds c = (search rules, refl)
+loop-left-init : tie.Need-loop-left-init invariant-loop-left decreases-loop-left
+loop-left-init c = (search rules, refl)
 
-mul_wide : tie.Need-overflow-mul-wide invariant-loop decreases-loop
-mul_wide c = search rules
+offset_bounds-sheet-at : tie.Need-offset_bounds-sheet-at invariant-loop-left decreases-loop-left
+offset_bounds-sheet-at c = search rules
 
-shared-slice-read-wide : tie.Need-shared-slice-read-wide invariant-loop decreases-loop
-shared-slice-read-wide c = search rules
+bounds-sheet-at : tie.Need-bounds-sheet-at invariant-loop-left decreases-loop-left
+bounds-sheet-at c = search rules
 
-wide-requires : tie.Need-wide-requires invariant-loop decreases-loop
-wide-requires c κs = search rules
+wide-term-requires : tie.Need-wide-term-requires invariant-loop-left decreases-loop-left
+wide-term-requires c κs = search rules
 
-add-is-within : tie.Need-overflow-add-is-within invariant-loop decreases-loop
-add-is-within c = search rules
+overflow_add-at : tie.Need-overflow_add-at invariant-loop-left decreases-loop-left
+overflow_add-at c = search rules
 
-mul-is-within : tie.Need-overflow-mul-is-within invariant-loop decreases-loop
-mul-is-within c = search rules
+offset_bounds-sheet-at-in-loop-left : tie.Need-offset_bounds-sheet-at-in-loop-left invariant-loop-left decreases-loop-left
+offset_bounds-sheet-at-in-loop-left c = search rules
 
-shared-slice-read-is-within : tie.Need-shared-slice-read-is-within invariant-loop decreases-loop
-shared-slice-read-is-within c = search rules
+bounds-sheet-at-in-loop-left : tie.Need-bounds-sheet-at-in-loop-left invariant-loop-left decreases-loop-left
+bounds-sheet-at-in-loop-left c = search rules
 
-is-within-requires : tie.Need-is-within-requires invariant-loop decreases-loop
-is-within-requires c κs = search rules
+is_within-fair-requires : tie.Need-is_within-fair-requires invariant-loop-left decreases-loop-left
+is_within-fair-requires c κs = search rules
 
-returns : tie.Need-returns invariant-loop decreases-loop
+returns-then-terms-term : tie.Need-returns-then-terms-term invariant-loop-left decreases-loop-left
+returns-then-terms-term c =
+    sym (term_off _ _ _ _ _ c.loop-left.left (omega arith) (omega arith)) ∙ c.loop-left.invariant.1
+
+returns-then-not-fair : tie.Need-returns-then-not-fair invariant-loop-left decreases-loop-left
+returns-then-not-fair c =
+    let w = out_of_range _ _ c.is_within-fair.ensures c.if-not-fair.true-raw in
+    sym (weight_off _ _ _ _ _ (omega arith) c.loop-left.left (omega arith) w) ∙ c.loop-left.invariant.1
+
+overflow_add-at-in-loop-left : tie.Need-overflow_add-at-in-loop-left invariant-loop-left decreases-loop-left
+overflow_add-at-in-loop-left c = search rules
+
+overflow_sub-left : tie.Need-overflow_sub-left invariant-loop-left decreases-loop-left
+overflow_sub-left c = search rules
+
+loop-left-smaller : tie.Need-loop-left-smaller invariant-loop-left decreases-loop-left
+loop-left-smaller c = search rules
+
+loop-left-preserved : tie.Need-loop-left-preserved invariant-loop-left decreases-loop-left
+loop-left-preserved c =
+    let w = in_range _ _ c.is_within-fair.ensures c.if-not-fair.false-raw in
+    (omega arith, sym (pair_on _ _ _ _ _ (omega arith) c.loop-left.left (omega arith) w) ∙ c.loop-left.invariant.1)
+
+returns : tie.Need-returns invariant-loop-left decreases-loop-left
 returns c =
-    let l = c.before.before.before.before.before.before in
-    sym (term_off _ _ _ _ _ l.loop.left (omega arith) (omega arith)) ∙ l.loop.invariant.1
+    let z : c.loop-left.left ≡ 0 = omega arith in
+    pairs_end _ _ _ _ _ ∙ rw z at c.loop-left.invariant.1
 
-returns-2 : tie.Need-returns-2 invariant-loop decreases-loop
-returns-2 c =
-    let l = c.before.before.before.before.before.before.before in
-    let w = out_of_range _ _ c.before.before.is_Within.ensures c.if2.true in
-    sym (weight_off _ _ _ _ _ (omega arith) l.loop.left (omega arith) w) ∙ l.loop.invariant.1
-
-add_at : tie.Need-overflow-add-at invariant-loop decreases-loop
-add_at c = search rules
-
-sub-left : tie.Need-overflow-sub-left invariant-loop decreases-loop
-sub-left c = search rules
-
-loop-less : tie.Need-loop-smaller invariant-loop decreases-loop
-loop-less c = search rules
-
-loop-again : tie.Need-loop-preserved invariant-loop decreases-loop
-loop-again c =
-    let l = c.before.before.before.before.before.before.before in
-    let w = in_range _ _ c.before.before.is_Within.ensures c.if2.false in
-    (omega arith, sym (pair_on _ _ _ _ _ (omega arith) l.loop.left (omega arith) w) ∙ l.loop.invariant.1)
-
-returns-3 : tie.Need-returns-3 invariant-loop decreases-loop
-returns-3 c =
-    let z : c.before.loop.left ≡ 0 = omega arith in
-    pairs_end _ _ _ _ _ ∙ rw z at c.before.loop.invariant.1
-
-pub pairs-spec : {M : Type 1} → statement M
-pairs-spec =
+pub pairs_spec : {M : Type 1} → statement M
+pairs_spec =
     tie.close
     (tie.spec
-    invariant-loop
-    decreases-loop
-    loop-holds
-    mul_wide
-    shared-slice-read-wide
-    wide-requires
-    add-is-within
-    mul-is-within
-    shared-slice-read-is-within
-    is-within-requires
-    returns
-    returns-2
-    add_at
-    sub-left
-    loop-less
-    loop-again
-    returns-3)
+    invariant-loop-left
+    decreases-loop-left
+    loop-left-init
+    offset_bounds-sheet-at
+    bounds-sheet-at
+    wide-term-requires
+    overflow_add-at
+    offset_bounds-sheet-at-in-loop-left
+    bounds-sheet-at-in-loop-left
+    is_within-fair-requires
+    returns-then-terms-term
+    returns-then-not-fair
+    overflow_add-at-in-loop-left
+    overflow_sub-left
+    loop-left-smaller
+    loop-left-preserved
+    returns)

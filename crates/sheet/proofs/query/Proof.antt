@@ -7,34 +7,39 @@ use Rattle.sheet.proofs.Laws.{four_inside, query_by}
 use Rattle.sheet.proofs.query.Statement.{statement}
 use Rattle.sheet.proofs.query.Tie as tie
 
-four-requires : tie.Need-four-requires
-four-requires c κs = search rules
+four-found-requires : tie.Need-four-found-requires
+four-found-requires c κs = search rules
 
-enum-known-found : tie.Need-enum-known-found
-enum-known-found c = search rules
+enum_known-found : tie.Need-enum_known-found
+enum_known-found c = search rules
 
-enum-known-found-2 : tie.Need-enum-known-found-2
-enum-known-found-2 c = search rules
+enum_known-found-in-Fine-1 : tie.Need-enum_known-found-in-Fine-1
+enum_known-found-in-Fine-1 c = search rules
 
-add-pairs : tie.Need-overflow-add-pairs
-add-pairs c =
-    let f = c.before.before.before in
-    omega (arith, four_inside _ _ _ _ (ap asked (sym c.before.found2.given.1) ∙ f.four.ensures))
+overflow_add-at : tie.Need-overflow_add-at
+overflow_add-at c =
+    omega (arith, four_inside _ _ _ _ (ap asked (sym c.in-Fine.is) ∙ c.four-found.ensures))
 
 pairs-requires : tie.Need-pairs-requires
 pairs-requires c κs =
-    let f = c.before.before.before in
-    four_inside _ _ _ _ (ap asked (sym c.before.found2.given.1) ∙ f.four.ensures)
+    four_inside _ _ _ _ (ap asked (sym c.in-Fine.is) ∙ c.four-found.ensures)
 
-returns : tie.Need-returns
-returns c =
-    let f = c.before.before.before in
-    query_by _ _ _ _ _ (ap asked (sym c.before.found.given.1) ∙ f.four.ensures)
+returns-in-Refused : tie.Need-returns-in-Refused
+returns-in-Refused c =
+    query_by _ _ _ _ _ (ap asked (sym c.in-Refused.is) ∙ c.four-found.ensures)
 
-returns-2 : tie.Need-returns-2
-returns-2 c =
-    let f = c.before.before.before.before in
-    c.pairs.ensures ∙ query_by _ _ _ _ _ (ap asked (sym c.before.before.found2.given.1) ∙ f.four.ensures)
+returns-in-Fine : tie.Need-returns-in-Fine
+returns-in-Fine c =
+    c.pairs.ensures ∙ query_by _ _ _ _ _ (ap asked (sym c.in-Fine.is) ∙ c.four-found.ensures)
 
-pub query-spec : {M : Type 1} → statement M
-query-spec = tie.close (tie.spec four-requires enum-known-found enum-known-found-2 add-pairs pairs-requires returns returns-2)
+pub query_spec : {M : Type 1} → statement M
+query_spec =
+    tie.close
+    (tie.spec
+    four-found-requires
+    enum_known-found
+    enum_known-found-in-Fine-1
+    overflow_add-at
+    pairs-requires
+    returns-in-Refused
+    returns-in-Fine)

@@ -6,74 +6,72 @@ use Rattle.sheet.specs.QueryLaws.{readable_four, query_is}
 use Rattle.sheet.proofs.read.Statement.{statement}
 use Rattle.sheet.proofs.read.Tie as tie
 
-mul-mode-of : tie.Need-overflow-mul-mode-of
-mul-mode-of c = omega (arith, readable_four _ _ c.before.requires)
+offset_bounds-sheet-at : tie.Need-offset_bounds-sheet-at
+offset_bounds-sheet-at c = omega (arith, readable_four _ _ c.requires)
 
-shared-slice-read-mode-of : tie.Need-shared-slice-read-mode-of
-shared-slice-read-mode-of c = omega (arith, readable_four _ _ c.before.before.requires)
+bounds-sheet-at : tie.Need-bounds-sheet-at
+bounds-sheet-at c = omega (arith, readable_four _ _ c.requires)
 
-mode-of-requires : tie.Need-mode-of-requires
-mode-of-requires c κs = search rules
+mode_of-requires : tie.Need-mode_of-requires
+mode_of-requires c κs = search rules
 
-add_wide : tie.Need-overflow-add-wide
-add_wide c = omega (arith, readable_four _ _ c.before.before.before.requires)
+overflow_add-at : tie.Need-overflow_add-at
+overflow_add-at c = omega (arith, readable_four _ _ c.requires)
 
-mul_wide : tie.Need-overflow-mul-wide
-mul_wide c = omega (arith, readable_four _ _ c.before.before.before.requires)
+offset_bounds-sheet-at-2 : tie.Need-offset_bounds-sheet-at-2
+offset_bounds-sheet-at-2 c = omega (arith, readable_four _ _ c.requires)
 
-shared-slice-read-wide : tie.Need-shared-slice-read-wide
-shared-slice-read-wide c = omega (arith, readable_four _ _ c.before.before.before.before.requires)
+bounds-sheet-at-2 : tie.Need-bounds-sheet-at-2
+bounds-sheet-at-2 c = omega (arith, readable_four _ _ c.requires)
 
 wide-requires : tie.Need-wide-requires
 wide-requires c κs = search rules
 
-add-t12 : tie.Need-overflow-add-t12
-add-t12 c = omega (arith, readable_four _ _ c.before.before.before.before.before.requires)
+overflow_add-result : tie.Need-overflow_add-result
+overflow_add-result c = omega (arith, readable_four _ _ c.requires)
 
-mul-t13 : tie.Need-overflow-mul-t13
-mul-t13 c = omega (arith, readable_four _ _ c.before.before.before.before.before.requires)
+offset_bounds-sheet-at-3 : tie.Need-offset_bounds-sheet-at-3
+offset_bounds-sheet-at-3 c = omega (arith, readable_four _ _ c.requires)
 
-shared-slice-read-t15 : tie.Need-shared-slice-read-t15
-shared-slice-read-t15 c = omega (arith, readable_four _ _ c.before.before.before.before.before.before.requires)
+bounds-sheet-at-3 : tie.Need-bounds-sheet-at-3
+bounds-sheet-at-3 c = omega (arith, readable_four _ _ c.requires)
 
-add-wide-2 : tie.Need-overflow-add-wide-2
-add-wide-2 c = omega (arith, readable_four _ _ c.before.before.before.before.before.before.requires)
+overflow_add-at-2 : tie.Need-overflow_add-at-2
+overflow_add-at-2 c = omega (arith, readable_four _ _ c.requires)
 
-mul-wide-2 : tie.Need-overflow-mul-wide-2
-mul-wide-2 c = omega (arith, readable_four _ _ c.before.before.before.before.before.before.requires)
+offset_bounds-sheet-at-4 : tie.Need-offset_bounds-sheet-at-4
+offset_bounds-sheet-at-4 c = omega (arith, readable_four _ _ c.requires)
 
-shared-slice-read-wide-2 : tie.Need-shared-slice-read-wide-2
-shared-slice-read-wide-2 c = omega (arith, readable_four _ _ c.before.before.before.before.before.before.before.requires)
+bounds-sheet-at-4 : tie.Need-bounds-sheet-at-4
+bounds-sheet-at-4 c = omega (arith, readable_four _ _ c.requires)
 
 wide-requires-2 : tie.Need-wide-requires-2
 wide-requires-2 c κs = search rules
 
-add-t21 : tie.Need-overflow-add-t21
-add-t21 c = omega (arith, readable_four _ _ c.before.before.before.before.before.before.before.before.requires)
+overflow_add-result-2 : tie.Need-overflow_add-result-2
+overflow_add-result-2 c = omega (arith, readable_four _ _ c.requires)
 
 returns : tie.Need-returns
 returns c =
-    let w = c.before.before.before in
-    let m = w.before.before in
-    (λ T i q h. rw (m.Mode-of.ensures, w.wide.ensures, c.wide2.ensures) (query_is _ T i _ q h), refl)
+    (λ T i q h. rw (c.mode_of.ensures, c.wide.ensures, c.wide-2.ensures) (query_is _ T i _ q h), refl)
 
 pub read_spec : {M : Type 1} → statement M
 read_spec =
     tie.close
     (tie.spec
-    mul-mode-of
-    shared-slice-read-mode-of
-    mode-of-requires
-    add_wide
-    mul_wide
-    shared-slice-read-wide
+    offset_bounds-sheet-at
+    bounds-sheet-at
+    mode_of-requires
+    overflow_add-at
+    offset_bounds-sheet-at-2
+    bounds-sheet-at-2
     wide-requires
-    add-t12
-    mul-t13
-    shared-slice-read-t15
-    add-wide-2
-    mul-wide-2
-    shared-slice-read-wide-2
+    overflow_add-result
+    offset_bounds-sheet-at-3
+    bounds-sheet-at-3
+    overflow_add-at-2
+    offset_bounds-sheet-at-4
+    bounds-sheet-at-4
     wide-requires-2
-    add-t21
+    overflow_add-result-2
     returns)

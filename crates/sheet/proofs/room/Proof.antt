@@ -7,21 +7,28 @@ use Rattle.sheet.proofs.Laws.{with_room, no_room}
 use Rattle.sheet.proofs.room.Statement.{statement}
 use Rattle.sheet.proofs.room.Tie as tie
 
-enum-known-v : tie.Need-enum-known-v
-enum-known-v c = search rules
+enum_known-v : tie.Need-enum_known-v
+enum_known-v c = search rules
 
-enum-known-v-2 : tie.Need-enum-known-v-2
-enum-known-v-2 c = search rules
+enum_known-v-in-Accepted-1 : tie.Need-enum_known-v-in-Accepted-1
+enum_known-v-in-Accepted-1 c = search rules
 
-returns : tie.Need-returns
+returns-in-Refused : tie.Need-returns-in-Refused
 unfolding roomed
-returns c = rw c.before.v.given.1 refl
+returns-in-Refused c = rw c.in-Refused.is refl
 
-returns-2 : tie.Need-returns-2
-returns-2 c = rw c.before.before.v2.given.1 (with_room _ _ (omega arith))
+returns-then-count-row_len : tie.Need-returns-then-count-row_len
+returns-then-count-row_len c = rw c.in-Accepted.is (with_room _ _ (omega arith))
 
-returns-3 : tie.Need-returns-3
-returns-3 c = rw c.before.before.v2.given.1 (no_room _ _ (omega arith))
+returns-else-count-row_len : tie.Need-returns-else-count-row_len
+returns-else-count-row_len c = rw c.in-Accepted.is (no_room _ _ (omega arith))
 
-pub room-spec : {M : Type 1} → statement M
-room-spec = tie.close (tie.spec enum-known-v enum-known-v-2 returns returns-2 returns-3)
+pub room_spec : {M : Type 1} → statement M
+room_spec =
+    tie.close
+    (tie.spec
+    enum_known-v
+    enum_known-v-in-Accepted-1
+    returns-in-Refused
+    returns-then-count-row_len
+    returns-else-count-row_len)

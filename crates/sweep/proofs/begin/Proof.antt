@@ -7,145 +7,144 @@ use Rattle.sweep.specs.BeginLaws.{blank_parts, parts_more, parts_all}
 use Rattle.sweep.proofs.begin.Statement.{statement}
 use Rattle.sweep.proofs.begin.Tie as tie
 
-abbrev invariant-loop : tie.invariant-loop
-invariant-loop image j n a₀ b₀ c₀ d₀ next₀ places₀ weights₀ room₀ ms top₀ p₀ a b c d next places weights room top p =
+abbrev invariant-loop-p : tie.invariant-loop-p
+invariant-loop-p image j n a₀ b₀ c₀ d₀ next₀ places₀ weights₀ room₀ ms top₀ p₀ a b c d next places weights room top p =
     PartsTo p image ms ms j n a b c d next places weights room top × (p ≤ n)
 
-abbrev decreases-loop : tie.decreases-loop
-decreases-loop image j n a₀ b₀ c₀ d₀ next₀ places₀ weights₀ room₀ ms top₀ p₀ a b c d next places weights room top p = n - p
+abbrev decreases-loop-p : tie.decreases-loop-p
+decreases-loop-p image j n a₀ b₀ c₀ d₀ next₀ places₀ weights₀ room₀ ms top₀ p₀ a b c d next places weights room top p = n - p
 
-loop-holds : tie.Need-loop-init invariant-loop decreases-loop
-loop-holds c = (blank_parts c.before.before.before.before.before.before.before.before.before.requires.0 c.before.before.before.before.before.before.before.before.before.requires.1, omega arith)
+loop-p-init : tie.Need-loop-p-init invariant-loop-p decreases-loop-p
+loop-p-init c = (blank_parts c.requires.0 c.requires.1, omega arith)
 
-add-m : tie.Need-overflow-add-m invariant-loop decreases-loop
-add-m c = omega (arith, c.loop-test.true, c.before.before.before.before.before.before.before.before.before.before.before.requires.2)
+overflow_add-m : tie.Need-overflow_add-m invariant-loop-p decreases-loop-p
+overflow_add-m c = omega (arith, c.loop-p-test.true, c.requires.2)
 
-mul-m : tie.Need-overflow-mul-m invariant-loop decreases-loop
-mul-m c = omega (arith, c.loop-test.true, c.before.before.before.before.before.before.before.before.before.before.before.requires.2)
+offset_bounds-ms-j : tie.Need-offset_bounds-ms-j invariant-loop-p decreases-loop-p
+offset_bounds-ms-j c = omega (arith, c.loop-p-test.true, c.requires.2)
 
-array-copy-out-m : tie.Need-array-copy-out-m invariant-loop decreases-loop
-array-copy-out-m c = omega (arith, c.loop-test.true, c.before.before.before.before.before.before.before.before.before.before.before.requires.2)
+bounds-ms-j : tie.Need-bounds-ms-j invariant-loop-p decreases-loop-p
+bounds-ms-j c = omega (arith, c.loop-p-test.true, c.requires.2)
 
-mul-base : tie.Need-overflow-mul-base invariant-loop decreases-loop
-mul-base c = omega (arith, c.before.loop-test.true, c.before.before.before.before.before.before.before.before.before.before.before.before.requires.2)
+overflow_mul-base : tie.Need-overflow_mul-base invariant-loop-p decreases-loop-p
+overflow_mul-base c = omega (arith, c.loop-p-test.true, c.requires.2)
 
-unpack-requires : tie.Need-unpack-requires invariant-loop decreases-loop
+unpack-requires : tie.Need-unpack-requires invariant-loop-p decreases-loop-p
 unpack-requires c κs =
-    let s = c.before.before.before.before.before.before.before.before.before.before.before.before.before in
-    let lt = c.before.before.loop-test.true in
-    (s.requires.3 _ lt, omega (arith, lt, s.requires.2), omega (arith, lt, s.requires.2), omega arith, omega arith, c.before.before.before.loop.invariant.0.rows.room_long)
+    let lt = c.loop-p-test.true in
+    (c.requires.3 _ lt, omega (arith, lt, c.requires.2), omega (arith, lt, c.requires.2), omega arith, omega arith, c.loop-p.invariant.0.rows.room_long)
 
-mul-weights : tie.Need-overflow-mul-weights invariant-loop decreases-loop
-mul-weights c = omega (arith, c.before.before.before.before.before.loop-test.true, c.before.before.before.before.before.before.before.before.before.before.before.before.before.before.before.before.requires.2)
+offset_bounds-weights-p : tie.Need-offset_bounds-weights-p invariant-loop-p decreases-loop-p
+offset_bounds-weights-p c = omega (arith, c.loop-p-test.true, c.requires.2)
 
-slice-write-weights : tie.Need-slice-write-weights invariant-loop decreases-loop
-slice-write-weights c = omega (arith, c.before.before.before.before.before.loop-test.true, c.before.before.before.before.before.before.before.before.before.before.before.before.before.before.before.before.requires.2, c.before.before.before.before.before.before.loop.invariant.0.rows.weights_long)
+bounds-weights-p : tie.Need-bounds-weights-p invariant-loop-p decreases-loop-p
+bounds-weights-p c = omega (arith, c.loop-p-test.true, c.requires.2, c.loop-p.invariant.0.rows.weights_long)
 
-add-places : tie.Need-overflow-add-places invariant-loop decreases-loop
-add-places c = omega (arith, c.before.before.before.before.before.loop-test.true, c.before.before.before.before.before.before.before.before.before.before.before.before.before.before.before.before.requires.2)
+overflow_add-places : tie.Need-overflow_add-places invariant-loop-p decreases-loop-p
+overflow_add-places c = omega (arith, c.loop-p-test.true, c.requires.2)
 
-mul-places : tie.Need-overflow-mul-places invariant-loop decreases-loop
-mul-places c = omega (arith, c.before.before.before.before.before.loop-test.true, c.before.before.before.before.before.before.before.before.before.before.before.before.before.before.before.before.requires.2)
+offset_bounds-places-p : tie.Need-offset_bounds-places-p invariant-loop-p decreases-loop-p
+offset_bounds-places-p c = omega (arith, c.loop-p-test.true, c.requires.2)
 
-slice-write-places : tie.Need-slice-write-places invariant-loop decreases-loop
-slice-write-places c = omega (arith, c.before.before.before.before.before.loop-test.true, c.before.before.before.before.before.before.before.before.before.before.before.before.before.before.before.before.requires.2, c.before.before.before.before.before.before.loop.invariant.0.rows.places_long)
+bounds-places-p : tie.Need-bounds-places-p invariant-loop-p decreases-loop-p
+bounds-places-p c = omega (arith, c.loop-p-test.true, c.requires.2, c.loop-p.invariant.0.rows.places_long)
 
-add-next : tie.Need-overflow-add-next invariant-loop decreases-loop
-add-next c = omega (arith, c.before.before.before.before.before.loop-test.true, c.before.before.before.before.before.before.before.before.before.before.before.before.before.before.before.before.requires.2)
+overflow_add-next : tie.Need-overflow_add-next invariant-loop-p decreases-loop-p
+overflow_add-next c = omega (arith, c.loop-p-test.true, c.requires.2)
 
-mul_next : tie.Need-overflow-mul-next invariant-loop decreases-loop
-mul_next c = omega (arith, c.before.before.before.before.before.loop-test.true, c.before.before.before.before.before.before.before.before.before.before.before.before.before.before.before.before.requires.2)
+offset_bounds-room-base : tie.Need-offset_bounds-room-base invariant-loop-p decreases-loop-p
+offset_bounds-room-base c = omega (arith, c.loop-p-test.true, c.requires.2)
 
-slice-read-next : tie.Need-slice-read-next invariant-loop decreases-loop
-slice-read-next c = omega (arith, c.before.before.before.before.before.before.loop-test.true, c.before.before.before.before.before.before.before.before.before.before.before.before.before.before.before.before.before.requires.2, c.before.before.before.before.before.before.before.loop.invariant.0.rows.room_long, c.before.before.before.unpack.ensures.long)
+bounds-room-base : tie.Need-bounds-room-base invariant-loop-p decreases-loop-p
+bounds-room-base c = omega (arith, c.loop-p-test.true, c.requires.2, c.loop-p.invariant.0.rows.room_long, c.unpack.ensures.long)
 
-mul-next-2 : tie.Need-overflow-mul-next-2 invariant-loop decreases-loop
-mul-next-2 c = omega (arith, c.before.before.before.before.before.before.loop-test.true, c.before.before.before.before.before.before.before.before.before.before.before.before.before.before.before.before.before.requires.2)
+offset_bounds-next-p : tie.Need-offset_bounds-next-p invariant-loop-p decreases-loop-p
+offset_bounds-next-p c = omega (arith, c.loop-p-test.true, c.requires.2)
 
-slice-write-next : tie.Need-slice-write-next invariant-loop decreases-loop
-slice-write-next c = omega (arith, c.before.before.before.before.before.before.loop-test.true, c.before.before.before.before.before.before.before.before.before.before.before.before.before.before.before.before.before.requires.2, c.before.before.before.before.before.before.before.loop.invariant.0.rows.next_long)
+bounds-next-p : tie.Need-bounds-next-p invariant-loop-p decreases-loop-p
+bounds-next-p c = omega (arith, c.loop-p-test.true, c.requires.2, c.loop-p.invariant.0.rows.next_long)
 
-mul-enter : tie.Need-overflow-mul-enter invariant-loop decreases-loop
-mul-enter c = omega (arith, c.before.before.before.before.before.before.before.before.before.before.loop-test.true, c.before.before.before.before.before.before.before.before.before.before.before.before.before.before.before.before.before.before.before.before.before.requires.2)
+offset_bounds-room-base-in-loop-p : tie.Need-offset_bounds-room-base-in-loop-p invariant-loop-p decreases-loop-p
+offset_bounds-room-base-in-loop-p c = omega (arith, c.loop-p-test.true, c.requires.2)
 
-slice-read-enter : tie.Need-slice-read-enter invariant-loop decreases-loop
-slice-read-enter c = omega (arith, c.before.before.before.before.before.before.before.before.before.before.before.loop-test.true, c.before.before.before.before.before.before.before.before.before.before.before.before.before.before.before.before.before.before.before.before.before.before.requires.2, c.before.before.before.before.before.before.before.before.before.before.before.before.loop.invariant.0.rows.room_long, c.before.before.before.before.before.before.before.before.unpack.ensures.long)
+bounds-room-base-in-loop-p : tie.Need-bounds-room-base-in-loop-p invariant-loop-p decreases-loop-p
+bounds-room-base-in-loop-p c = omega (arith, c.loop-p-test.true, c.requires.2, c.loop-p.invariant.0.rows.room_long, c.unpack.ensures.long)
 
-enter-requires : tie.Need-enter-requires invariant-loop decreases-loop
-enter-requires c κs = (c.before.before.before.before.before.before.before.before.before.before.before.before.loop.invariant.0.keyed.kept, c.before.before.before.before.before.before.before.before.before.before.before.loop-test.true)
+enter-top-requires : tie.Need-enter-top-requires invariant-loop-p decreases-loop-p
+enter-top-requires c κs = (c.loop-p.invariant.0.keyed.kept, c.loop-p-test.true)
 
-add-p : tie.Need-overflow-add-p invariant-loop decreases-loop
-add-p c = omega (arith, c.before.before.before.before.before.before.before.before.before.before.before.before.before.before.before.before.before.before.before.before.loop-test.true, c.before.before.before.before.before.before.before.before.before.before.before.before.before.before.before.before.before.before.before.before.before.before.before.before.before.before.before.before.before.before.before.requires.2)
+overflow_add-p : tie.Need-overflow_add-p invariant-loop-p decreases-loop-p
+overflow_add-p c = omega (arith, c.loop-p-test.true, c.requires.2)
 
-loop-less : tie.Need-loop-smaller invariant-loop decreases-loop
-loop-less c = omega (arith, c.before.before.before.before.before.before.before.before.before.before.before.before.before.before.before.before.before.before.before.before.loop-test.true)
+loop-p-smaller : tie.Need-loop-p-smaller invariant-loop-p decreases-loop-p
+loop-p-smaller c = omega (arith, c.loop-p-test.true)
 
-loop-again : tie.Need-loop-preserved invariant-loop decreases-loop
-loop-again c =
-    let lt = c.before.before.before.before.before.before.before.before.before.before.before.before.before.before.before.before.before.before.before.before.loop-test.true in
-    (parts_more c.before.before.before.before.before.before.before.before.before.before.before.before.before.before.before.before.before.before.before.before.before.loop.invariant.0 lt (c.before.before.before.before.before.before.before.before.before.before.before.before.before.before.before.before.before.before.before.before.before.before.before.before.before.before.before.before.before.before.before.requires.3 _ lt) c.before.before.before.before.before.before.before.before.before.before.before.before.before.before.before.before.before.unpack.ensures c.before.before.before.before.before.before.before.before.enter.ensures, omega (arith, lt))
+loop-p-preserved : tie.Need-loop-p-preserved invariant-loop-p decreases-loop-p
+loop-p-preserved c =
+    let lt = c.loop-p-test.true in
+    (parts_more c.loop-p.invariant.0 lt (c.requires.3 _ lt) c.unpack.ensures c.enter-top.ensures, omega (arith, lt))
 
-same_length : tie.Need-same-length invariant-loop decreases-loop
-same_length c = c.before.loop.invariant.0.keyed.kept.long.0 ∙ sym c.before.before.before.before.before.before.before.before.before.before.before.requires.0.kept.long.0
+shape_of-a : tie.Need-shape_of-a invariant-loop-p decreases-loop-p
+shape_of-a c = c.loop-p.invariant.0.keyed.kept.long.0 ∙ sym c.requires.0.kept.long.0
 
-same-length-2 : tie.Need-same-length-2 invariant-loop decreases-loop
-same-length-2 c = c.before.loop.invariant.0.keyed.kept.long.1 ∙ sym c.before.before.before.before.before.before.before.before.before.before.before.requires.0.kept.long.1
+shape_of-b : tie.Need-shape_of-b invariant-loop-p decreases-loop-p
+shape_of-b c = c.loop-p.invariant.0.keyed.kept.long.1 ∙ sym c.requires.0.kept.long.1
 
-same-length-3 : tie.Need-same-length-3 invariant-loop decreases-loop
-same-length-3 c = c.before.loop.invariant.0.keyed.kept.long.2 ∙ sym c.before.before.before.before.before.before.before.before.before.before.before.requires.0.kept.long.2
+shape_of-c : tie.Need-shape_of-c invariant-loop-p decreases-loop-p
+shape_of-c c = c.loop-p.invariant.0.keyed.kept.long.2 ∙ sym c.requires.0.kept.long.2
 
-same-length-4 : tie.Need-same-length-4 invariant-loop decreases-loop
-same-length-4 c = c.before.loop.invariant.0.keyed.kept.long.3 ∙ sym c.before.before.before.before.before.before.before.before.before.before.before.requires.0.kept.long.3
+shape_of-d : tie.Need-shape_of-d invariant-loop-p decreases-loop-p
+shape_of-d c = c.loop-p.invariant.0.keyed.kept.long.3 ∙ sym c.requires.0.kept.long.3
 
-same-length-5 : tie.Need-same-length-5 invariant-loop decreases-loop
-same-length-5 c = c.before.loop.invariant.0.rows.next_long ∙ sym c.before.before.before.before.before.before.before.before.before.before.before.requires.1.next_long
+shape_of-next : tie.Need-shape_of-next invariant-loop-p decreases-loop-p
+shape_of-next c = c.loop-p.invariant.0.rows.next_long ∙ sym c.requires.1.next_long
 
-same-length-6 : tie.Need-same-length-6 invariant-loop decreases-loop
-same-length-6 c = c.before.loop.invariant.0.rows.places_long ∙ sym c.before.before.before.before.before.before.before.before.before.before.before.requires.1.places_long
+shape_of-places : tie.Need-shape_of-places invariant-loop-p decreases-loop-p
+shape_of-places c = c.loop-p.invariant.0.rows.places_long ∙ sym c.requires.1.places_long
 
-same-length-7 : tie.Need-same-length-7 invariant-loop decreases-loop
-same-length-7 c = c.before.loop.invariant.0.rows.weights_long ∙ sym c.before.before.before.before.before.before.before.before.before.before.before.requires.1.weights_long
+shape_of-weights : tie.Need-shape_of-weights invariant-loop-p decreases-loop-p
+shape_of-weights c = c.loop-p.invariant.0.rows.weights_long ∙ sym c.requires.1.weights_long
 
-same-length-8 : tie.Need-same-length-8 invariant-loop decreases-loop
-same-length-8 c = c.before.loop.invariant.0.rows.room_long ∙ sym c.before.before.before.before.before.before.before.before.before.before.before.requires.1.room_long
+shape_of-room : tie.Need-shape_of-room invariant-loop-p decreases-loop-p
+shape_of-room c = c.loop-p.invariant.0.rows.room_long ∙ sym c.requires.1.room_long
 
-returns : tie.Need-returns invariant-loop decreases-loop
-returns c = parts_all c.before.loop.invariant.0 (omega (arith, c.loop-test.false, c.before.loop.invariant.1))
+returns : tie.Need-returns invariant-loop-p decreases-loop-p
+returns c = parts_all c.loop-p.invariant.0 (omega (arith, c.loop-p-test.false, c.loop-p.invariant.1))
 
-pub begin-spec : {M : Type 1} → statement M
-begin-spec =
+pub begin_spec : {M : Type 1} → statement M
+begin_spec =
     tie.close
     (tie.spec
-    invariant-loop
-    decreases-loop
-    loop-holds
-    add-m
-    mul-m
-    array-copy-out-m
-    mul-base
+    invariant-loop-p
+    decreases-loop-p
+    loop-p-init
+    overflow_add-m
+    offset_bounds-ms-j
+    bounds-ms-j
+    overflow_mul-base
     unpack-requires
-    mul-weights
-    slice-write-weights
-    add-places
-    mul-places
-    slice-write-places
-    add-next
-    mul_next
-    slice-read-next
-    mul-next-2
-    slice-write-next
-    mul-enter
-    slice-read-enter
-    enter-requires
-    add-p
-    loop-less
-    loop-again
-    same_length
-    same-length-2
-    same-length-3
-    same-length-4
-    same-length-5
-    same-length-6
-    same-length-7
-    same-length-8
+    offset_bounds-weights-p
+    bounds-weights-p
+    overflow_add-places
+    offset_bounds-places-p
+    bounds-places-p
+    overflow_add-next
+    offset_bounds-room-base
+    bounds-room-base
+    offset_bounds-next-p
+    bounds-next-p
+    offset_bounds-room-base-in-loop-p
+    bounds-room-base-in-loop-p
+    enter-top-requires
+    overflow_add-p
+    loop-p-smaller
+    loop-p-preserved
+    shape_of-a
+    shape_of-b
+    shape_of-c
+    shape_of-d
+    shape_of-next
+    shape_of-places
+    shape_of-weights
+    shape_of-room
     returns)

@@ -13,207 +13,199 @@ use Rattle.sweep.specs.PartLaws.{parts_place, parts_next, parts_here, parts_scor
 use Rattle.sweep.proofs.many.Statement.{statement}
 use Rattle.sweep.proofs.many.Tie as tie
 
-abbrev invariant-loop : tie.invariant-loop
-invariant-loop a₀ b₀ c₀ d₀ next₀ places₀ weights room n top slack limit past top₀ past₀ t₀ p₀ key₀ a b c d next places top' past' t p key =
+abbrev invariant-loop-key : tie.invariant-loop-key
+invariant-loop-key a₀ b₀ c₀ d₀ next₀ places₀ weights room n top slack limit past top₀ past₀ t₀ p₀ key₀ a b c d next places top' past' t p key =
     ((s : List ℕ) (f : Frame) (ms : List Mention) → PartsAt s f ms n a₀ b₀ c₀ d₀ next₀ places₀ weights room top₀ slack limit past₀ t₀ →
     Later s f ms n a b c d next places weights room top' slack limit past' t top₀)
     × (p ≡ top' / 256 % 16)
     × (key ≡ get_or next p 0)
 
-abbrev decreases-loop : tie.decreases-loop
-decreases-loop a₀ b₀ c₀ d₀ next₀ places₀ weights room n top slack limit past top₀ past₀ t₀ p₀ key₀ a b c d next places top' past' t p key = 18446744073709551616 - top'
+abbrev decreases-loop-key : tie.decreases-loop-key
+decreases-loop-key a₀ b₀ c₀ d₀ next₀ places₀ weights room n top slack limit past top₀ past₀ t₀ p₀ key₀ a b c d next places top' past' t p key = 18446744073709551616 - top'
 
 -- the walk that is there at the start, later on
-later : (c : tie.At-loop invariant-loop decreases-loop) →
-    let s = c.before.before.before.before.before.before.before.before.before.before in
-    let l = c.loop in
-    Later s.requires.0 s.requires.1 s.requires.2 s.args.n l.a l.b l.c l.d l.next l.places s.args.weights.now s.args.room.now l.top s.args.slack s.args.limit l.past l.t s.args.top
+later : (c : tie.At-loop-key invariant-loop-key decreases-loop-key) →
+    let l = c.loop-key in
+    Later c.requires.0 c.requires.1 c.requires.2 c.args.n l.a l.b l.c l.d l.next l.places c.args.weights.now c.args.room.now l.top c.args.slack c.args.limit l.past l.t c.args.top
 later c =
-    let s = c.before.before.before.before.before.before.before.before.before.before in
-    c.loop.invariant.0 s.requires.0 s.requires.1 s.requires.2 s.requires.3
+    c.loop-key.invariant.0 c.requires.0 c.requires.1 c.requires.2 c.requires.3
 
-mul-key : tie.Need-overflow-mul-key invariant-loop decreases-loop
-mul-key c = search rules
+offset_bounds-next-p : tie.Need-offset_bounds-next-p invariant-loop-key decreases-loop-key
+offset_bounds-next-p c = search rules
 
-slice-read-key : tie.Need-slice-read-key invariant-loop decreases-loop
-slice-read-key c = omega (arith, c.before.before.before.before.before.before.before.before.before.requires.3.parts.rows.next_long)
+bounds-next-p : tie.Need-bounds-next-p invariant-loop-key decreases-loop-key
+bounds-next-p c = omega (arith, c.requires.3.parts.rows.next_long)
 
-loop-holds : tie.Need-loop-init invariant-loop decreases-loop
-loop-holds c = (λ s f ms k. later_first k, refl, refl)
+loop-key-init : tie.Need-loop-key-init invariant-loop-key decreases-loop-key
+loop-key-init c = (λ s f ms k. later_first k, refl, refl)
 
-cast-goes-on : tie.Need-overflow-cast-goes-on invariant-loop decreases-loop
-cast-goes-on c = omega (arith, (parts_next (later c.before).at).fits)
+overflow_cast-top : tie.Need-overflow_cast-top invariant-loop-key decreases-loop-key
+overflow_cast-top c = omega (arith, (parts_next (later c.before).at).fits)
 
-goes-on-requires : tie.Need-goes-on-requires invariant-loop decreases-loop
-goes-on-requires c κs = tt
+goes_on-requires : tie.Need-goes_on-requires invariant-loop-key decreases-loop-key
+goes_on-requires c κs = tt
 
-cast-here : tie.Need-overflow-cast-here invariant-loop decreases-loop
-cast-here c = omega (arith, (parts_next (later c.before.before.before).at).fits)
+overflow_cast-here : tie.Need-overflow_cast-here invariant-loop-key decreases-loop-key
+overflow_cast-here c = omega (arith, (parts_next (later c.before.before.before).at).fits)
 
-carried-requires : tie.Need-carried-requires invariant-loop decreases-loop
+carried-requires : tie.Need-carried-requires invariant-loop-key decreases-loop-key
 carried-requires c κs = tt
 
 -- the document of the next posting is visited
-here : (c : tie.After-carried invariant-loop decreases-loop) → (s : List ℕ) (f : Frame) (ms : List Mention) →
-    let start = c.before.before.before.before.before.before.before.before.before.before.before.before.before.before in
-    let l = c.before.before.before.before.loop in
-    (w : Later s f ms start.args.n l.a l.b l.c l.d l.next l.places start.args.weights.now start.args.room.now l.top start.args.slack start.args.limit l.past l.t start.args.top) →
+here : (c : tie.After-carried invariant-loop-key decreases-loop-key) → (s : List ℕ) (f : Frame) (ms : List Mention) →
+    let l = c.loop-key in
+    (w : Later s f ms c.args.n l.a l.b l.c l.d l.next l.places c.args.weights.now c.args.room.now l.top c.args.slack c.args.limit l.past l.t c.args.top) →
     Midway s f.os f.pre f.bar f.j f.q f.budget f.run f.from w.ns (l.top / 4096) c.carried.result
-here c s f ms w = parts_here w.at (c.before.before.goes_on.ensures.0 c.before.if1.true) c.carried.ensures
+here c s f ms w = parts_here w.at (c.goes_on.ensures.0 c.if-goes_on.true) c.carried.ensures
 
-mul-scored : tie.Need-overflow-mul-scored invariant-loop decreases-loop
-mul-scored c = search rules
+offset_bounds-weights-p : tie.Need-offset_bounds-weights-p invariant-loop-key decreases-loop-key
+offset_bounds-weights-p c = search rules
 
-shared-slice-read-scored : tie.Need-shared-slice-read-scored invariant-loop decreases-loop
-shared-slice-read-scored c = omega (arith, c.before.before.before.before.before.loop.invariant.1, c.before.before.before.before.before.before.before.before.before.before.before.before.before.before.before.requires.3.parts.rows.weights_long)
+bounds-weights-p : tie.Need-bounds-weights-p invariant-loop-key decreases-loop-key
+bounds-weights-p c = omega (arith, c.loop-key.invariant.1, c.requires.3.parts.rows.weights_long)
 
-cast-scored : tie.Need-overflow-cast-scored invariant-loop decreases-loop
-cast-scored c = search rules
+overflow_cast-top-in-loop-key : tie.Need-overflow_cast-top-in-loop-key invariant-loop-key decreases-loop-key
+overflow_cast-top-in-loop-key c = search rules
 
-scored-requires : tie.Need-scored-requires invariant-loop decreases-loop
-scored-requires c κs =
-    let s = c.before.before.before.before.before.before.before.before.before.before.before.before.before.before.before in
-    let l = c.before.before.before.before.before in
-    rw l.loop.invariant.1 (parts_scores (later l).at (here c.before s.requires.0 s.requires.1 s.requires.2 (later l)))
+scored-t-requires : tie.Need-scored-t-requires invariant-loop-key decreases-loop-key
+scored-t-requires c κs =
+    rw c.loop-key.invariant.1 (parts_scores (later c.before.before.before.before.before).at (here c.before c.requires.0 c.requires.1 c.requires.2 (later c.before.before.before.before.before)))
 
-mul-place : tie.Need-overflow-mul-place invariant-loop decreases-loop
-mul-place c = search rules
+offset_bounds-places-p : tie.Need-offset_bounds-places-p invariant-loop-key decreases-loop-key
+offset_bounds-places-p c = search rules
 
-slice-read-place : tie.Need-slice-read-place invariant-loop decreases-loop
-slice-read-place c = omega (arith, c.before.before.before.before.before.before.before.loop.invariant.1, (later c.before.before.before.before.before.before.before).at.parts.rows.places_long)
+bounds-places-p : tie.Need-bounds-places-p invariant-loop-key decreases-loop-key
+bounds-places-p c = omega (arith, c.loop-key.invariant.1, (later c.before.before.before.before.before.before.before).at.parts.rows.places_long)
 
-add-place : tie.Need-overflow-add-place invariant-loop decreases-loop
-add-place c = let l = c.before.before.before.before.before.before.before in omega (arith, rw (← l.loop.invariant.1) at (parts_within (later l).at))
+overflow_add-place : tie.Need-overflow_add-place invariant-loop-key decreases-loop-key
+overflow_add-place c = omega (arith, rw (← c.loop-key.invariant.1) at (parts_within (later c.before.before.before.before.before.before.before).at))
 
-mul-places : tie.Need-overflow-mul-places invariant-loop decreases-loop
-mul-places c = search rules
+offset_bounds-places-p-in-loop-key : tie.Need-offset_bounds-places-p-in-loop-key invariant-loop-key decreases-loop-key
+offset_bounds-places-p-in-loop-key c = search rules
 
-slice-write-places : tie.Need-slice-write-places invariant-loop decreases-loop
-slice-write-places c = omega (arith, c.before.before.before.before.before.before.before.loop.invariant.1, (later c.before.before.before.before.before.before.before).at.parts.rows.places_long)
+bounds-places-p-in-loop-key : tie.Need-bounds-places-p-in-loop-key invariant-loop-key decreases-loop-key
+bounds-places-p-in-loop-key c = omega (arith, c.loop-key.invariant.1, (later c.before.before.before.before.before.before.before).at.parts.rows.places_long)
 
-mul_next : tie.Need-overflow-mul-next invariant-loop decreases-loop
-mul_next c = let l = c.before.before.before.before.before.before.before in omega (arith, rw (← l.loop.invariant.1) at (parts_within (later l).at))
+offset_bounds-room-place : tie.Need-offset_bounds-room-place invariant-loop-key decreases-loop-key
+offset_bounds-room-place c = omega (arith, rw (← c.loop-key.invariant.1) at (parts_within (later c.before.before.before.before.before.before.before).at))
 
-shared-slice-read-next : tie.Need-shared-slice-read-next invariant-loop decreases-loop
-shared-slice-read-next c = let l = c.before.before.before.before.before.before.before.before in omega (arith, rw (← l.loop.invariant.1) at (parts_within (later l).at), c.before.before.before.before.before.before.before.before.before.before.before.before.before.before.before.before.before.before.requires.3.parts.rows.room_long)
+bounds-room-place : tie.Need-bounds-room-place invariant-loop-key decreases-loop-key
+bounds-room-place c = omega (arith, rw (← c.loop-key.invariant.1) at (parts_within (later c.before.before.before.before.before.before.before.before).at), c.requires.3.parts.rows.room_long)
 
-mul-next-2 : tie.Need-overflow-mul-next-2 invariant-loop decreases-loop
-mul-next-2 c = search rules
+offset_bounds-next-p-in-loop-key : tie.Need-offset_bounds-next-p-in-loop-key invariant-loop-key decreases-loop-key
+offset_bounds-next-p-in-loop-key c = search rules
 
-slice-write-next : tie.Need-slice-write-next invariant-loop decreases-loop
-slice-write-next c = omega (arith, c.before.before.before.before.before.before.before.before.loop.invariant.1, (later c.before.before.before.before.before.before.before.before).at.parts.rows.next_long)
+bounds-next-p-in-loop-key : tie.Need-bounds-next-p-in-loop-key invariant-loop-key decreases-loop-key
+bounds-next-p-in-loop-key c = omega (arith, c.loop-key.invariant.1, (later c.before.before.before.before.before.before.before.before).at.parts.rows.next_long)
 
-enter-requires : tie.Need-enter-requires invariant-loop decreases-loop
-enter-requires c κs = let l = c.before.before.before.before.before.before.before.before.before.before.before.before in ((later l).at.parts.keyed.kept, rw l.loop.invariant.1 (parts_place (later l).at))
+enter-top-requires : tie.Need-enter-top-requires invariant-loop-key decreases-loop-key
+enter-top-requires c κs = ((later c.before.before.before.before.before.before.before.before.before.before.before.before).at.parts.keyed.kept, rw c.loop-key.invariant.1 (parts_place (later c.before.before.before.before.before.before.before.before.before.before.before.before).at))
 
-mul-key-2 : tie.Need-overflow-mul-key-2 invariant-loop decreases-loop
-mul-key-2 c = search rules
+offset_bounds-next-p-in-loop-key-2 : tie.Need-offset_bounds-next-p-in-loop-key-2 invariant-loop-key decreases-loop-key
+offset_bounds-next-p-in-loop-key-2 c = search rules
 
-slice-read-key-2 : tie.Need-slice-read-key-2 invariant-loop decreases-loop
-slice-read-key-2 c = rw length-set (omega (arith, (later c.before.before.before.before.before.before.before.before.before.before.before.before.before.before.before.before.before.before.before.before.before.before).at.parts.rows.next_long))
+bounds-next-p-in-loop-key-2 : tie.Need-bounds-next-p-in-loop-key-2 invariant-loop-key decreases-loop-key
+bounds-next-p-in-loop-key-2 c = rw length-set (omega (arith, (later c.before.before.before.before.before.before.before.before.before.before.before.before.before.before.before.before.before.before.before.before.before.before).at.parts.rows.next_long))
 
-loop-less : tie.Need-loop-smaller invariant-loop decreases-loop
-loop-less c =
-    let s = c.before.before.before.before.before.before.before.before.before.before.before.before.before.before.before.before.before.before.before.before.before.before.before.before.before.before.before.before.before.before.before.before in
-    let l = c.before.before.before.before.before.before.before.before.before.before.before.before.before.before.before.before.before.before.before.before.before.before in
-    let w = later l in
-    let up = later_up w l.loop.invariant.1 l.loop.invariant.2 (here c.before.before.before.before.before.before.before.before.before.before.before.before.before.before.before.before.before.before s.requires.0 s.requires.1 s.requires.2 w) c.before.before.before.before.before.before.before.before.before.before.before.before.before.before.before.before.before.before.before.before.before.loop-test.true c.before.before.before.before.before.before.before.before.before.enter.ensures in
+loop-key-smaller : tie.Need-loop-key-smaller invariant-loop-key decreases-loop-key
+loop-key-smaller c =
+    let w = later c.before.before.before.before.before.before.before.before.before.before.before.before.before.before.before.before.before.before.before.before.before.before in
+    let up = later_up w c.loop-key.invariant.1 c.loop-key.invariant.2 (here c.before.before.before.before.before.before.before.before.before.before.before.before.before.before.before.before.before.before c.requires.0 c.requires.1 c.requires.2 w) c.loop-key-test.true c.enter-top.ensures in
     omega (arith, (parts_next w.at).fits)
 
-loop-again : tie.Need-loop-preserved invariant-loop decreases-loop
-loop-again c = (
+loop-key-preserved : tie.Need-loop-key-preserved invariant-loop-key decreases-loop-key
+loop-key-preserved c = (
   λ s f ms k.
-      let l = c.before.before.before.before.before.before.before.before.before.before.before.before.before.before.before.before.before.before.before.before.before.before in
-      let w = l.loop.invariant.0 s f ms k in
-      later_on w l.loop.invariant.1 l.loop.invariant.2 (here c.before.before.before.before.before.before.before.before.before.before.before.before.before.before.before.before.before.before s f ms w) c.before.before.before.before.before.before.before.before.before.before.before.before.before.before.before.before.before.before.before.before.before.loop-test.true c.before.before.before.before.before.before.before.before.before.enter.ensures c.before.before.before.before.before.before.before.before.before.before.before.before.before.before.before.before.scored.ensures,
+      let w = c.loop-key.invariant.0 s f ms k in
+      later_on w c.loop-key.invariant.1 c.loop-key.invariant.2 (here c.before.before.before.before.before.before.before.before.before.before.before.before.before.before.before.before.before.before s f ms w) c.loop-key-test.true c.enter-top.ensures c.scored-t.ensures,
   refl,
   refl,
 )
 
-same_length : tie.Need-same-length invariant-loop decreases-loop
-same_length c = (later c.before.before.before).at.parts.keyed.kept.long.0 ∙ sym c.before.before.before.before.before.before.before.before.before.before.before.before.before.requires.3.parts.keyed.kept.long.0
+shape_of-a-else-goes_on : tie.Need-shape_of-a-else-goes_on invariant-loop-key decreases-loop-key
+shape_of-a-else-goes_on c = (later c.before.before.before).at.parts.keyed.kept.long.0 ∙ sym c.requires.3.parts.keyed.kept.long.0
 
-same-length-2 : tie.Need-same-length-2 invariant-loop decreases-loop
-same-length-2 c = (later c.before.before.before).at.parts.keyed.kept.long.1 ∙ sym c.before.before.before.before.before.before.before.before.before.before.before.before.before.requires.3.parts.keyed.kept.long.1
+shape_of-b-else-goes_on : tie.Need-shape_of-b-else-goes_on invariant-loop-key decreases-loop-key
+shape_of-b-else-goes_on c = (later c.before.before.before).at.parts.keyed.kept.long.1 ∙ sym c.requires.3.parts.keyed.kept.long.1
 
-same-length-3 : tie.Need-same-length-3 invariant-loop decreases-loop
-same-length-3 c = (later c.before.before.before).at.parts.keyed.kept.long.2 ∙ sym c.before.before.before.before.before.before.before.before.before.before.before.before.before.requires.3.parts.keyed.kept.long.2
+shape_of-c-else-goes_on : tie.Need-shape_of-c-else-goes_on invariant-loop-key decreases-loop-key
+shape_of-c-else-goes_on c = (later c.before.before.before).at.parts.keyed.kept.long.2 ∙ sym c.requires.3.parts.keyed.kept.long.2
 
-same-length-4 : tie.Need-same-length-4 invariant-loop decreases-loop
-same-length-4 c = (later c.before.before.before).at.parts.keyed.kept.long.3 ∙ sym c.before.before.before.before.before.before.before.before.before.before.before.before.before.requires.3.parts.keyed.kept.long.3
+shape_of-d-else-goes_on : tie.Need-shape_of-d-else-goes_on invariant-loop-key decreases-loop-key
+shape_of-d-else-goes_on c = (later c.before.before.before).at.parts.keyed.kept.long.3 ∙ sym c.requires.3.parts.keyed.kept.long.3
 
-same-length-5 : tie.Need-same-length-5 invariant-loop decreases-loop
-same-length-5 c = (later c.before.before.before).at.parts.rows.next_long ∙ sym c.before.before.before.before.before.before.before.before.before.before.before.before.before.requires.3.parts.rows.next_long
+shape_of-next-else-goes_on : tie.Need-shape_of-next-else-goes_on invariant-loop-key decreases-loop-key
+shape_of-next-else-goes_on c = (later c.before.before.before).at.parts.rows.next_long ∙ sym c.requires.3.parts.rows.next_long
 
-same-length-6 : tie.Need-same-length-6 invariant-loop decreases-loop
-same-length-6 c = (later c.before.before.before).at.parts.rows.places_long ∙ sym c.before.before.before.before.before.before.before.before.before.before.before.before.before.requires.3.parts.rows.places_long
+shape_of-places-else-goes_on : tie.Need-shape_of-places-else-goes_on invariant-loop-key decreases-loop-key
+shape_of-places-else-goes_on c = (later c.before.before.before).at.parts.rows.places_long ∙ sym c.requires.3.parts.rows.places_long
 
-returns : tie.Need-returns invariant-loop decreases-loop
-returns c = c.before.before.before.loop.invariant.0
+returns-else-goes_on : tie.Need-returns-else-goes_on invariant-loop-key decreases-loop-key
+returns-else-goes_on c = c.loop-key.invariant.0
 
-same-length-7 : tie.Need-same-length-7 invariant-loop decreases-loop
-same-length-7 c = (later c.before).at.parts.keyed.kept.long.0 ∙ sym c.before.before.before.before.before.before.before.before.before.before.before.requires.3.parts.keyed.kept.long.0
+shape_of-a-after-loop-key : tie.Need-shape_of-a-after-loop-key invariant-loop-key decreases-loop-key
+shape_of-a-after-loop-key c = (later c.before).at.parts.keyed.kept.long.0 ∙ sym c.requires.3.parts.keyed.kept.long.0
 
-same-length-8 : tie.Need-same-length-8 invariant-loop decreases-loop
-same-length-8 c = (later c.before).at.parts.keyed.kept.long.1 ∙ sym c.before.before.before.before.before.before.before.before.before.before.before.requires.3.parts.keyed.kept.long.1
+shape_of-b-after-loop-key : tie.Need-shape_of-b-after-loop-key invariant-loop-key decreases-loop-key
+shape_of-b-after-loop-key c = (later c.before).at.parts.keyed.kept.long.1 ∙ sym c.requires.3.parts.keyed.kept.long.1
 
-same-length-9 : tie.Need-same-length-9 invariant-loop decreases-loop
-same-length-9 c = (later c.before).at.parts.keyed.kept.long.2 ∙ sym c.before.before.before.before.before.before.before.before.before.before.before.requires.3.parts.keyed.kept.long.2
+shape_of-c-after-loop-key : tie.Need-shape_of-c-after-loop-key invariant-loop-key decreases-loop-key
+shape_of-c-after-loop-key c = (later c.before).at.parts.keyed.kept.long.2 ∙ sym c.requires.3.parts.keyed.kept.long.2
 
-same-length-10 : tie.Need-same-length-10 invariant-loop decreases-loop
-same-length-10 c = (later c.before).at.parts.keyed.kept.long.3 ∙ sym c.before.before.before.before.before.before.before.before.before.before.before.requires.3.parts.keyed.kept.long.3
+shape_of-d-after-loop-key : tie.Need-shape_of-d-after-loop-key invariant-loop-key decreases-loop-key
+shape_of-d-after-loop-key c = (later c.before).at.parts.keyed.kept.long.3 ∙ sym c.requires.3.parts.keyed.kept.long.3
 
-same-length-11 : tie.Need-same-length-11 invariant-loop decreases-loop
-same-length-11 c = (later c.before).at.parts.rows.next_long ∙ sym c.before.before.before.before.before.before.before.before.before.before.before.requires.3.parts.rows.next_long
+shape_of-next-after-loop-key : tie.Need-shape_of-next-after-loop-key invariant-loop-key decreases-loop-key
+shape_of-next-after-loop-key c = (later c.before).at.parts.rows.next_long ∙ sym c.requires.3.parts.rows.next_long
 
-same-length-12 : tie.Need-same-length-12 invariant-loop decreases-loop
-same-length-12 c = (later c.before).at.parts.rows.places_long ∙ sym c.before.before.before.before.before.before.before.before.before.before.before.requires.3.parts.rows.places_long
+shape_of-places-after-loop-key : tie.Need-shape_of-places-after-loop-key invariant-loop-key decreases-loop-key
+shape_of-places-after-loop-key c = (later c.before).at.parts.rows.places_long ∙ sym c.requires.3.parts.rows.places_long
 
-returns-2 : tie.Need-returns-2 invariant-loop decreases-loop
-returns-2 c = c.before.loop.invariant.0
+returns-after-loop-key : tie.Need-returns-after-loop-key invariant-loop-key decreases-loop-key
+returns-after-loop-key c = c.loop-key.invariant.0
 
-pub many-spec : {M : Type 1} → statement M
-many-spec =
+pub many_spec : {M : Type 1} → statement M
+many_spec =
     tie.close
     (tie.spec
-    invariant-loop
-    decreases-loop
-    mul-key
-    slice-read-key
-    loop-holds
-    cast-goes-on
-    goes-on-requires
-    cast-here
+    invariant-loop-key
+    decreases-loop-key
+    offset_bounds-next-p
+    bounds-next-p
+    loop-key-init
+    overflow_cast-top
+    goes_on-requires
+    overflow_cast-here
     carried-requires
-    mul-scored
-    shared-slice-read-scored
-    cast-scored
-    scored-requires
-    mul-place
-    slice-read-place
-    add-place
-    mul-places
-    slice-write-places
-    mul_next
-    shared-slice-read-next
-    mul-next-2
-    slice-write-next
-    enter-requires
-    mul-key-2
-    slice-read-key-2
-    loop-less
-    loop-again
-    same_length
-    same-length-2
-    same-length-3
-    same-length-4
-    same-length-5
-    same-length-6
-    returns
-    same-length-7
-    same-length-8
-    same-length-9
-    same-length-10
-    same-length-11
-    same-length-12
-    returns-2)
+    offset_bounds-weights-p
+    bounds-weights-p
+    overflow_cast-top-in-loop-key
+    scored-t-requires
+    offset_bounds-places-p
+    bounds-places-p
+    overflow_add-place
+    offset_bounds-places-p-in-loop-key
+    bounds-places-p-in-loop-key
+    offset_bounds-room-place
+    bounds-room-place
+    offset_bounds-next-p-in-loop-key
+    bounds-next-p-in-loop-key
+    enter-top-requires
+    offset_bounds-next-p-in-loop-key-2
+    bounds-next-p-in-loop-key-2
+    loop-key-smaller
+    loop-key-preserved
+    shape_of-a-else-goes_on
+    shape_of-b-else-goes_on
+    shape_of-c-else-goes_on
+    shape_of-d-else-goes_on
+    shape_of-next-else-goes_on
+    shape_of-places-else-goes_on
+    returns-else-goes_on
+    shape_of-a-after-loop-key
+    shape_of-b-after-loop-key
+    shape_of-c-after-loop-key
+    shape_of-d-after-loop-key
+    shape_of-next-after-loop-key
+    shape_of-places-after-loop-key
+    returns-after-loop-key)

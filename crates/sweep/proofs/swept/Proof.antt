@@ -5,46 +5,61 @@ use Rattle.sweep.proofs.swept.Tie as tie
 
 two-requires : tie.Need-two-requires
 two-requires c κs =
-    let a = c.before.before.before.before.before.before.before.before.before.before.before.before.args in
-    (a.b.now, a.c.now, a.d.now, a.top, rw c.before.before.before.if1.true at c.before.before.before.before.before.before.before.before.before.before.before.before.requires)
+    let a = c.args in
+    (a.b.now, a.c.now, a.d.now, a.top, rw c.if-n-eq2.true at c.requires)
 
-same_length : tie.Need-same-length
-same_length c = search rules
+shape_of-a-then-n-eq2 : tie.Need-shape_of-a-then-n-eq2
+shape_of-a-then-n-eq2 c = search rules
 
-same-length-2 : tie.Need-same-length-2
-same-length-2 c = search rules
+shape_of-next-then-n-eq2 : tie.Need-shape_of-next-then-n-eq2
+shape_of-next-then-n-eq2 c = search rules
 
-same-length-3 : tie.Need-same-length-3
-same-length-3 c = search rules
+shape_of-places-then-n-eq2 : tie.Need-shape_of-places-then-n-eq2
+shape_of-places-then-n-eq2 c = search rules
 
-returns : tie.Need-returns
-returns c =
-    let a = c.before.before.before.before.before.before.before.before.before.before.before.before.before.before.before.before.before.before.before.args in
-    rw c.before.before.before.before.before.before.before.before.before.before.if1.true (c.before.before.before.before.before.before.two.ensures a.b.now a.c.now a.d.now a.top)
+returns-then-n-eq2 : tie.Need-returns-then-n-eq2
+returns-then-n-eq2 c =
+    let a = c.args in
+    rw c.if-n-eq2.true (c.two.ensures a.b.now a.c.now a.d.now a.top)
 
 many-requires : tie.Need-many-requires
 many-requires c κs = search rules
 
-same-length-4 : tie.Need-same-length-4
-same-length-4 c = search rules
+shape_of-a : tie.Need-shape_of-a
+shape_of-a c = search rules
 
-same-length-5 : tie.Need-same-length-5
-same-length-5 c = search rules
+shape_of-b : tie.Need-shape_of-b
+shape_of-b c = search rules
 
-same-length-6 : tie.Need-same-length-6
-same-length-6 c = search rules
+shape_of-c : tie.Need-shape_of-c
+shape_of-c c = search rules
 
-same-length-7 : tie.Need-same-length-7
-same-length-7 c = search rules
+shape_of-d : tie.Need-shape_of-d
+shape_of-d c = search rules
 
-same-length-8 : tie.Need-same-length-8
-same-length-8 c = search rules
+shape_of-next : tie.Need-shape_of-next
+shape_of-next c = search rules
 
-same-length-9 : tie.Need-same-length-9
-same-length-9 c = search rules
+shape_of-places : tie.Need-shape_of-places
+shape_of-places c = search rules
 
-returns-2 : tie.Need-returns-2
-returns-2 c = search rules
+returns : tie.Need-returns
+returns c = search rules
 
-pub swept-spec : {M : Type 1} → statement M
-swept-spec = tie.close (tie.spec two-requires same_length same-length-2 same-length-3 returns many-requires same-length-4 same-length-5 same-length-6 same-length-7 same-length-8 same-length-9 returns-2)
+pub swept_spec : {M : Type 1} → statement M
+swept_spec =
+    tie.close
+    (tie.spec
+    two-requires
+    shape_of-a-then-n-eq2
+    shape_of-next-then-n-eq2
+    shape_of-places-then-n-eq2
+    returns-then-n-eq2
+    many-requires
+    shape_of-a
+    shape_of-b
+    shape_of-c
+    shape_of-d
+    shape_of-next
+    shape_of-places
+    returns)

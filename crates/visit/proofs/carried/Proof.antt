@@ -3,11 +3,15 @@ use mathlib.Core.Path.{refl}
 use Rattle.visit.proofs.carried.Statement.{statement}
 use Rattle.visit.proofs.carried.Tie as tie
 
+returns-then-here-past : tie.Need-returns-then-here-past
+returns-then-here-past c = (λ e. refl, λ ne. absurd (ne c.if-here-past.true))
+
 returns : tie.Need-returns
-returns c = (λ e. refl, λ ne. absurd (ne c.if1.true))
+returns c = (λ e. absurd (c.if-here-past.false e), λ ne. refl)
 
-returns-2 : tie.Need-returns-2
-returns-2 c = (λ e. absurd (c.if1.false e), λ ne. refl)
-
-pub carried-spec : {M : Type 1} → statement M
-carried-spec = tie.close (tie.spec returns returns-2)
+pub carried_spec : {M : Type 1} → statement M
+carried_spec =
+    tie.close
+    (tie.spec
+    returns-then-here-past
+    returns)

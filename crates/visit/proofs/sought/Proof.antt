@@ -4,13 +4,16 @@ use Rattle.visit.specs.StandLaws.{goes_sought}
 use Rattle.visit.proofs.sought.Statement.{statement}
 use Rattle.visit.proofs.sought.Tie as tie
 
-seek-requires : tie.Need-seek-requires
-seek-requires c κs = search rules
+seek-c-requires : tie.Need-seek-c-requires
+seek-c-requires c κs = search rules
 
 returns : tie.Need-returns
 returns c =
-    let b = c.before.before in
-    goes_sought b.args.m c.seek.ensures.0 b.requires.2 c.seek.ensures.1
+    goes_sought c.args.m c.seek-c.ensures.0 c.requires.2 c.seek-c.ensures.1
 
-pub sought-spec : {M : Type 1} → statement M
-sought-spec = tie.close (tie.spec seek-requires returns)
+pub sought_spec : {M : Type 1} → statement M
+sought_spec =
+    tie.close
+    (tie.spec
+    seek-c-requires
+    returns)

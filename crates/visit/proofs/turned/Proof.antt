@@ -4,13 +4,16 @@ use Rattle.visit.specs.StandLaws.{goes_next}
 use Rattle.visit.proofs.turned.Statement.{statement}
 use Rattle.visit.proofs.turned.Tie as tie
 
-turn-block-requires : tie.Need-turn-block-requires
-turn-block-requires c κs = search rules
+turn_block-c-requires : tie.Need-turn_block-c-requires
+turn_block-c-requires c κs = search rules
 
 returns : tie.Need-returns
 returns c =
-    let b = c.before.before in
-    goes_next b.args.m c.turn-block.ensures.0 b.requires.0 b.requires.1 c.turn-block.ensures.1
+    goes_next c.args.m c.turn_block-c.ensures.0 c.requires.0 c.requires.1 c.turn_block-c.ensures.1
 
-pub turned-spec : {M : Type 1} → statement M
-turned-spec = tie.close (tie.spec turn-block-requires returns)
+pub turned_spec : {M : Type 1} → statement M
+turned_spec =
+    tie.close
+    (tie.spec
+    turn_block-c-requires
+    returns)

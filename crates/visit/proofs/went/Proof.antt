@@ -8,16 +8,21 @@ use Rattle.visit.proofs.went.Tie as tie
 turned-requires : tie.Need-turned-requires
 turned-requires c κs = search rules
 
+returns-then-m-eq0 : tie.Need-returns-then-m-eq0
+returns-then-m-eq0 c = search rules
+
+take_next-c-requires : tie.Need-take_next-c-requires
+take_next-c-requires c κs = search rules
+
 returns : tie.Need-returns
-returns c = search rules
+returns c =
+    rw c.take_next-c.ensures (goes_taken c.args.m c.requires.0 c.requires.1 (omega (arith, c.if-m-eq0.false)))
 
-take-next-requires : tie.Need-take-next-requires
-take-next-requires c κs = search rules
-
-returns-2 : tie.Need-returns-2
-returns-2 c =
-    let b = c.before.before.before.before in
-    rw c.take_next.ensures (goes_taken b.args.m b.requires.0 b.requires.1 (omega (arith, c.before.if1.false)))
-
-pub went-spec : {M : Type 1} → statement M
-went-spec = tie.close (tie.spec turned-requires returns take-next-requires returns-2)
+pub went_spec : {M : Type 1} → statement M
+went_spec =
+    tie.close
+    (tie.spec
+    turned-requires
+    returns-then-m-eq0
+    take_next-c-requires
+    returns)

@@ -10,142 +10,138 @@ use Rattle.words.specs.Lanes.{sum_lanes, sum_at, sum_words, words_none, word_sum
 use Rattle.words.proofs.fill.Statement.{statement}
 use Rattle.words.proofs.fill.Tie as tie
 
-abbrev invariant-loop : tie.invariant-loop
-invariant-loop part start stride k far pairs room₀ step at₀ i₀ room at i =
+abbrev invariant-loop-i : tie.invariant-loop-i
+invariant-loop-i part start stride k far pairs room₀ step at₀ i₀ room at i =
     (i ≤ pairs)
     × (at + 57 ≡ start + (i + 1) * (k * stride))
     × (length room ≡ length room₀)
     × ((f : ℕ → ℕ) → sum_words f stride k room (2 * i) ≡ sum_at f part stride start (i * k) + sum_at f part stride (start + 8 * far) (i * k))
 
-abbrev decreases-loop : tie.decreases-loop
-decreases-loop part start stride k far pairs room₀ step at₀ i₀ room at i = pairs - i
+abbrev decreases-loop-i : tie.decreases-loop-i
+decreases-loop-i part start stride k far pairs room₀ step at₀ i₀ room at i = pairs - i
 
 -- a word more is there in either half
-there : (c : tie.In-loop invariant-loop decreases-loop) →
-    let a = c.before.before.before.before.args in
-    c.before.loop.at + 57 + 8 * a.far ≤ 8 * length a.part.now
+there : (c : tie.In-loop-i invariant-loop-i decreases-loop-i) →
+    let a = c.args in
+    c.loop-i.at + 57 + 8 * a.far ≤ 8 * length a.part.now
 there c =
-    let a = c.before.before.before.before.args in
-    let p = c.before.before.before.before.requires.0 in
-    omega (arith, mul-le-mul_right (a.k * a.stride) c.loop-test.true, p.inside)
+    let a = c.args in
+    let p = c.requires.0 in
+    omega (arith, mul-le-mul_right (a.k * a.stride) c.loop-i-test.true, p.inside)
 
 -- the lanes of a word of the half that begins at bit b
 lanes :
-    (c : tie.In-loop invariant-loop decreases-loop) (f : ℕ → ℕ) (b at bit x : ℕ) →
-    let a = c.before.before.before.before.args in
-    at + 57 ≡ b + (c.before.loop.i + 1) * (a.k * a.stride) → bit ≡ at → x % 2 ^ 57 ≡ bits_at a.part.now bit 57 →
-    sum_lanes f a.stride x a.k ≡ sum_at f a.part.now a.stride (b + c.before.loop.i * (a.k * a.stride)) a.k
+    (c : tie.In-loop-i invariant-loop-i decreases-loop-i) (f : ℕ → ℕ) (b at bit x : ℕ) →
+    let a = c.args in
+    at + 57 ≡ b + (c.loop-i.i + 1) * (a.k * a.stride) → bit ≡ at → x % 2 ^ 57 ≡ bits_at a.part.now bit 57 →
+    sum_lanes f a.stride x a.k ≡ sum_at f a.part.now a.stride (b + c.loop-i.i * (a.k * a.stride)) a.k
 lanes c f b at bit x e q h =
-    let a = c.before.before.before.before.args in
-    let first : bit + (57 - a.k * a.stride) ≡ b + c.before.loop.i * (a.k * a.stride) = omega arith in
-    word_sum f a.part.now a.stride a.k bit x c.before.before.before.before.requires.0.word h
+    let a = c.args in
+    let first : bit + (57 - a.k * a.stride) ≡ b + c.loop-i.i * (a.k * a.stride) = omega arith in
+    word_sum f a.part.now a.stride a.k bit x c.requires.0.word h
     ∙ ap (λ (i : ℕ). sum_at f a.part.now a.stride i a.k) first
 
-mul-step : tie.Need-overflow-mul-step invariant-loop decreases-loop
-mul-step c = search rules
+overflow_mul-step : tie.Need-overflow_mul-step invariant-loop-i decreases-loop-i
+overflow_mul-step c = search rules
 
-add_at : tie.Need-overflow-add-at invariant-loop decreases-loop
-add_at c = search rules
+overflow_add-at : tie.Need-overflow_add-at invariant-loop-i decreases-loop-i
+overflow_add-at c = search rules
 
-sub_at : tie.Need-overflow-sub-at invariant-loop decreases-loop
-sub_at c = search rules
+overflow_sub-at : tie.Need-overflow_sub-at invariant-loop-i decreases-loop-i
+overflow_sub-at c = search rules
 
-loop-holds : tie.Need-loop-init invariant-loop decreases-loop
-loop-holds c =
-    let a = c.before.before.args in
+loop-i-init : tie.Need-loop-i-init invariant-loop-i decreases-loop-i
+loop-i-init c =
+    let a = c.args in
     (omega arith, omega arith, refl, λ f. words_none f a.part.now a.stride a.k a.start (a.start + 8 * a.far) _)
 
-word-at-requires : tie.Need-word-at-requires invariant-loop decreases-loop
-word-at-requires c κs = omega (arith, there c)
+word_at-a-requires : tie.Need-word_at-a-requires invariant-loop-i decreases-loop-i
+word_at-a-requires c κs = omega (arith, there c)
 
-add-word-at : tie.Need-overflow-add-word-at invariant-loop decreases-loop
-add-word-at c = omega (arith, there c.before)
+overflow_add-byte : tie.Need-overflow_add-byte invariant-loop-i decreases-loop-i
+overflow_add-byte c = omega (arith, there c.before)
 
-word-at-requires-2 : tie.Need-word-at-requires-2 invariant-loop decreases-loop
-word-at-requires-2 c κs = omega (arith, there c.before)
+word_at-b-requires : tie.Need-word_at-b-requires invariant-loop-i decreases-loop-i
+word_at-b-requires c κs = omega (arith, there c.before)
 
-mul-room : tie.Need-overflow-mul-room invariant-loop decreases-loop
-mul-room c = search rules
+overflow_mul-room : tie.Need-overflow_mul-room invariant-loop-i decreases-loop-i
+overflow_mul-room c = search rules
 
-mul-room-2 : tie.Need-overflow-mul-room-2 invariant-loop decreases-loop
-mul-room-2 c = search rules
+offset_bounds-room-i : tie.Need-offset_bounds-room-i invariant-loop-i decreases-loop-i
+offset_bounds-room-i c = search rules
 
-slice-write-room : tie.Need-slice-write-room invariant-loop decreases-loop
-slice-write-room c = search rules
+bounds-room-i : tie.Need-bounds-room-i invariant-loop-i decreases-loop-i
+bounds-room-i c = search rules
 
-mul-room-3 : tie.Need-overflow-mul-room-3 invariant-loop decreases-loop
-mul-room-3 c = search rules
+overflow_mul-room-in-loop-i : tie.Need-overflow_mul-room-in-loop-i invariant-loop-i decreases-loop-i
+overflow_mul-room-in-loop-i c = search rules
 
-add-room : tie.Need-overflow-add-room invariant-loop decreases-loop
-add-room c = search rules
+overflow_add-room : tie.Need-overflow_add-room invariant-loop-i decreases-loop-i
+overflow_add-room c = search rules
 
-mul-room-4 : tie.Need-overflow-mul-room-4 invariant-loop decreases-loop
-mul-room-4 c = search rules
+offset_bounds-room-i-in-loop-i : tie.Need-offset_bounds-room-i-in-loop-i invariant-loop-i decreases-loop-i
+offset_bounds-room-i-in-loop-i c = search rules
 
-slice-write-room-2 : tie.Need-slice-write-room-2 invariant-loop decreases-loop
-slice-write-room-2 c =
-    let l = c.before.before.before in
-    omega (arith, length-set l.loop.room (2 * l.loop.i) c.before.word_at.result)
+bounds-room-i-in-loop-i : tie.Need-bounds-room-i-in-loop-i invariant-loop-i decreases-loop-i
+bounds-room-i-in-loop-i c =
+    omega (arith, length-set c.loop-i.room (2 * c.loop-i.i) c.word_at-a.result)
 
-add-at-2 : tie.Need-overflow-add-at-2 invariant-loop decreases-loop
-add-at-2 c = omega (arith, there c.before.before)
+overflow_add-at-in-loop-i : tie.Need-overflow_add-at-in-loop-i invariant-loop-i decreases-loop-i
+overflow_add-at-in-loop-i c = omega (arith, there c.before.before)
 
-add-i : tie.Need-overflow-add-i invariant-loop decreases-loop
-add-i c = search rules
+overflow_add-i : tie.Need-overflow_add-i invariant-loop-i decreases-loop-i
+overflow_add-i c = search rules
 
-loop-less : tie.Need-loop-smaller invariant-loop decreases-loop
-loop-less c = search rules
+loop-i-smaller : tie.Need-loop-i-smaller invariant-loop-i decreases-loop-i
+loop-i-smaller c = search rules
 
-loop-again : tie.Need-loop-preserved invariant-loop decreases-loop
-loop-again c =
-    let d = c.before.before in
-    let l = d.before in
-    let a = l.before.before.before.args in
-    let i = l.loop.i in
-    let at = l.loop.at in (
+loop-i-preserved : tie.Need-loop-i-preserved invariant-loop-i decreases-loop-i
+loop-i-preserved c =
+    let a = c.args in
+    let i = c.loop-i.i in
+    let at = c.loop-i.at in (
       omega arith,
       omega arith,
       search rules,
-      λ f. words_pair f a.part.now a.stride a.k a.start (a.start + 8 * a.far) l.loop.room i
-          c.before.word_at.result c.word-at2.result (omega arith)
-          (lanes d f a.start at (8 * (at / 8) + at % 8) c.before.word_at.result (omega arith) (omega arith) c.before.word_at.ensures)
-          (lanes d f (a.start + 8 * a.far) (at + 8 * a.far) (8 * (at / 8 + a.far) + at % 8) c.word-at2.result (omega arith) (omega arith) c.word-at2.ensures)
-          (l.loop.invariant.3 f),
+      λ f. words_pair f a.part.now a.stride a.k a.start (a.start + 8 * a.far) c.loop-i.room i
+          c.word_at-a.result c.word_at-b.result (omega arith)
+          (lanes c.before.before f a.start at (8 * (at / 8) + at % 8) c.word_at-a.result (omega arith) (omega arith) c.word_at-a.ensures)
+          (lanes c.before.before f (a.start + 8 * a.far) (at + 8 * a.far) (8 * (at / 8 + a.far) + at % 8) c.word_at-b.result (omega arith) (omega arith) c.word_at-b.ensures)
+          (c.loop-i.invariant.3 f),
     )
 
-same_length : tie.Need-same-length invariant-loop decreases-loop
-same_length c = search rules
+shape_of-room : tie.Need-shape_of-room invariant-loop-i decreases-loop-i
+shape_of-room c = search rules
 
-returns : tie.Need-returns invariant-loop decreases-loop
+returns : tie.Need-returns invariant-loop-i decreases-loop-i
 returns c f =
-    let l = c.before in
-    let a = l.before.before.before.args in
-    let e : l.loop.i ≡ a.pairs = omega arith in
-    rw e at (l.loop.invariant.3 f)
+    let a = c.args in
+    let e : c.loop-i.i ≡ a.pairs = omega arith in
+    rw e at (c.loop-i.invariant.3 f)
 
 pub fill_spec : {M : Type 1} → statement M
 fill_spec =
     tie.close
     (tie.spec
-    invariant-loop
-    decreases-loop
-    mul-step
-    add_at
-    sub_at
-    loop-holds
-    word-at-requires
-    add-word-at
-    word-at-requires-2
-    mul-room
-    mul-room-2
-    slice-write-room
-    mul-room-3
-    add-room
-    mul-room-4
-    slice-write-room-2
-    add-at-2
-    add-i
-    loop-less
-    loop-again
-    same_length
+    invariant-loop-i
+    decreases-loop-i
+    overflow_mul-step
+    overflow_add-at
+    overflow_sub-at
+    loop-i-init
+    word_at-a-requires
+    overflow_add-byte
+    word_at-b-requires
+    overflow_mul-room
+    offset_bounds-room-i
+    bounds-room-i
+    overflow_mul-room-in-loop-i
+    overflow_add-room
+    offset_bounds-room-i-in-loop-i
+    bounds-room-i-in-loop-i
+    overflow_add-at-in-loop-i
+    overflow_add-i
+    loop-i-smaller
+    loop-i-preserved
+    shape_of-room
     returns)

@@ -40,156 +40,149 @@ bits s =
     }
 
 -- the row after the halves, after what is left of the first, of the second, and at the end
-abbrev halves : tie.After-slice-known2 → tie.Start
+abbrev halves : tie.After-slice_known-2-1 → tie.Start
 halves c = c.before.before.before.before.before.before
 
-abbrev near : tie.After-slice-known3 → tie.Start
+abbrev near : tie.After-slice_known-3-1 → tie.Start
 near c = halves c.before.before.before.before
 
-abbrev both : tie.After-slice-known4 → tie.Start
+abbrev both : tie.After-slice_known-4-1 → tie.Start
 both c = near c.before.before.before.before
 
-abbrev row2 : tie.After-slice-known2 → List ℕ
-row2 c = c.before.before.fill.new.1.1.1.1.1.1.0
+abbrev row2 : tie.After-slice_known-2-1 → List ℕ
+row2 c = c.fill.new.room
 
-abbrev row3 : tie.After-slice-known3 → List ℕ
-row3 c = c.before.before.fill-rest.new.1.1.1.1.1.1.1.0
+abbrev row3 : tie.After-slice_known-3-1 → List ℕ
+row3 c = c.fill_rest-near.new.room
 
-abbrev row4 : tie.After-slice-known4 → List ℕ
-row4 c = c.before.before.fill-rest2.new.1.1.1.1.1.1.1.0
+abbrev row4 : tie.After-slice_known-4-1 → List ℕ
+row4 c = c.fill_rest-both.new.room
 
-long2 : (c : tie.After-slice-known2) → length (row2 c) ≡ 128
-long2 c = c.before.before.fill.auto.1.1.1.1.1.1.0 ∙ (halves c).requires.3
+long2 : (c : tie.After-slice_known-2-1) → length (row2 c) ≡ 128
+long2 c = c.fill.auto.room ∙ (halves c).requires.3
 
-long3 : (c : tie.After-slice-known3) → length (row3 c) ≡ 128
-long3 c = c.before.before.fill-rest.auto.1.1.1.1.1.1.1.0 ∙ long2 c.before.before.before.before
+long3 : (c : tie.After-slice_known-3-1) → length (row3 c) ≡ 128
+long3 c = c.fill_rest-near.auto.room ∙ long2 c.before.before.before.before
 
-long4 : (c : tie.After-slice-known4) → length (row4 c) ≡ 128
-long4 c = c.before.before.fill-rest2.auto.1.1.1.1.1.1.1.0 ∙ long3 c.before.before.before.before
+long4 : (c : tie.After-slice_known-4-1) → length (row4 c) ≡ 128
+long4 c = c.fill_rest-both.auto.room ∙ long3 c.before.before.before.before
 
-mul-half : tie.Need-overflow-mul-half
-mul-half c = search rules
+overflow_mul-half : tie.Need-overflow_mul-half
+overflow_mul-half c = search rules
 
-mul-far : tie.Need-overflow-mul-far
-mul-far c = omega (arith, bits c.before.before)
+overflow_mul-far : tie.Need-overflow_mul-far
+overflow_mul-far c = omega (arith, bits c.before.before)
 
-div-pairs : tie.Need-nonzero-div-pairs
-div-pairs c = search rules
+nonzero_div-pairs : tie.Need-nonzero_div-pairs
+nonzero_div-pairs c = search rules
 
 fill-requires : tie.Need-fill-requires
 fill-requires c κs =
-    let s = c.before.before.before in
-    let a = s.args in
+    let a = c.args in
     let far = a.n / 16 * a.stride in
-    (packed_too (a.start + 8 * far) (pairs s * a.k) s.requires.0 (omega (arith, bits s, s.requires.0.inside)), s.requires.1, omega (arith, split s))
+    (packed_too (a.start + 8 * far) (pairs c.before.before.before * a.k) c.requires.0 (omega (arith, bits c.before.before.before, c.requires.0.inside)), c.requires.1, omega (arith, split c.before.before.before))
 
-mul-rest : tie.Need-overflow-mul-rest
-mul-rest c = omega (arith, split (halves c))
+overflow_mul-rest : tie.Need-overflow_mul-rest
+overflow_mul-rest c = omega (arith, split (halves c))
 
-sub-rest : tie.Need-overflow-sub-rest
-sub-rest c = omega (arith, split (halves c))
+overflow_sub-rest : tie.Need-overflow_sub-rest
+overflow_sub-rest c = omega (arith, split (halves c))
 
-mul_at : tie.Need-overflow-mul-at
-mul_at c = omega (arith, split (halves c))
+overflow_mul-at : tie.Need-overflow_mul-at
+overflow_mul-at c = omega (arith, split (halves c))
 
-mul-at-2 : tie.Need-overflow-mul-at-2
-mul-at-2 c = omega (arith, bits (halves c))
+overflow_mul-at-2 : tie.Need-overflow_mul-at-2
+overflow_mul-at-2 c = omega (arith, bits (halves c))
 
-add_at : tie.Need-overflow-add-at
-add_at c = omega (arith, bits (halves c))
+overflow_add-at : tie.Need-overflow_add-at
+overflow_add-at c = omega (arith, bits (halves c))
 
-mul-fill-rest : tie.Need-overflow-mul-fill-rest
-mul-fill-rest c = omega (arith, split (halves c))
+overflow_mul-pairs : tie.Need-overflow_mul-pairs
+overflow_mul-pairs c = omega (arith, split (halves c))
 
-fill-rest-requires : tie.Need-fill-rest-requires
-fill-rest-requires c κs =
-    let k = c.before in
-    let s = halves k in
+fill_rest-near-requires : tie.Need-fill_rest-near-requires
+fill_rest-near-requires c κs =
+    let s = halves c.before in
     let a = s.args in
-    (packed_too (a.start + pairs s * a.k * a.stride) (left s) s.pre.0 (omega (arith, bits s, s.pre.0.inside)), omega (arith, split s, long2 k), s.pre.4)
+    (packed_too (a.start + pairs s * a.k * a.stride) (left s) s.requires.0 (omega (arith, bits s, s.requires.0.inside)), omega (arith, split s, long2 c.before), s.requires.4)
 
-mul-fill-rest-2 : tie.Need-overflow-mul-fill-rest-2
-mul-fill-rest-2 c = omega (arith, bits (near c))
+overflow_mul-far-2 : tie.Need-overflow_mul-far-2
+overflow_mul-far-2 c = omega (arith, bits (near c))
 
-add-fill-rest : tie.Need-overflow-add-fill-rest
-add-fill-rest c = omega (arith, bits (near c))
+overflow_add-at-2 : tie.Need-overflow_add-at-2
+overflow_add-at-2 c = omega (arith, bits (near c))
 
-fill-rest-requires-2 : tie.Need-fill-rest-requires-2
-fill-rest-requires-2 c κs =
-    let k = c.before in
-    let s = near k in
-    let few = k.before.before.fill-rest.ensures.few in
+fill_rest-both-requires : tie.Need-fill_rest-both-requires
+fill_rest-both-requires c κs =
+    let s = near c.before in
+    let few = c.fill_rest-near.ensures.few in
     let a = s.args in
     let at = a.start + pairs s * a.k * a.stride + 8 * (a.n / 16 * a.stride) in
-    (packed_too at (left s) s.pre.0 (omega (arith, bits s, s.pre.0.inside)), omega (arith, split s, long3 k), s.pre.4)
+    (packed_too at (left s) s.requires.0 (omega (arith, bits s, s.requires.0.inside)), omega (arith, split s, long3 c.before), s.requires.4)
 
-mul-fill-rest-3 : tie.Need-overflow-mul-fill-rest-3
-mul-fill-rest-3 c = omega (arith, bits (both c))
+overflow_mul-far-3 : tie.Need-overflow_mul-far-3
+overflow_mul-far-3 c = omega (arith, bits (both c))
 
-add-fill-rest-2 : tie.Need-overflow-add-fill-rest-2
-add-fill-rest-2 c = omega (arith, bits (both c))
+overflow_add-start : tie.Need-overflow_add-start
+overflow_add-start c = omega (arith, bits (both c))
 
-mul-fill-rest-4 : tie.Need-overflow-mul-fill-rest-4
-mul-fill-rest-4 c = search rules
+overflow_mul-half-2 : tie.Need-overflow_mul-half-2
+overflow_mul-half-2 c = search rules
 
-sub-fill-rest : tie.Need-overflow-sub-fill-rest
-sub-fill-rest c = search rules
+overflow_sub-n : tie.Need-overflow_sub-n
+overflow_sub-n c = search rules
 
-fill-rest-requires-3 : tie.Need-fill-rest-requires-3
-fill-rest-requires-3 c κs =
-    let k = c.before in
-    let s = both k in
-    let few = k.before.before.fill-rest2.ensures.few in
-    let less = k.before.before.before.before.before.before.fill-rest.ensures.few in
+fill_rest-requires : tie.Need-fill_rest-requires
+fill_rest-requires c κs =
+    let s = both c.before in
+    let few = c.fill_rest-both.ensures.few in
+    let less = c.fill_rest-near.ensures.few in
     let a = s.args in
     let at = a.start + 16 * (a.n / 16 * a.stride) in
-    (packed_too at (a.n - 2 * half s) s.pre.0 (omega (arith, bits s, s.pre.0.inside)), omega (arith, split s, long4 k), s.pre.4)
+    (packed_too at (a.n - 2 * half s) s.requires.0 (omega (arith, bits s, s.requires.0.inside)), omega (arith, split s, long4 c.before), s.requires.4)
 
-same_length : tie.Need-same-length
-same_length c = search rules
+shape_of-room : tie.Need-shape_of-room
+shape_of-room c = search rules
 
 returns : tie.Need-returns
 returns c =
-    let b = c.before.before.before.before in
-    let n = b.before.before.before.before in
-    let h = n.before.before.before.before in
-    let s = halves h in
+    let s = halves c.before.before.before.before.before.before.before.before.before.before.before.before in
     let a = s.args in
     let far = a.n / 16 * a.stride in
     let p = pairs s in
     let there : a.start + 8 * far ≡ a.start + half s * a.stride = omega arith in
     let beyond : a.start + p * a.k * a.stride + 8 * far ≡ a.start + half s * a.stride + p * a.k * a.stride = omega arith in
     let after : a.start + 16 * far ≡ a.start + (half s + half s) * a.stride = omega arith in
-    let x = n.before.before.fill-rest.ensures in
-    let y = b.before.before.fill-rest2.ensures in
-    let z = c.before.before.fill-rest3.ensures in
-    filled a.part.now a.stride a.k a.start (half s) p (left s) (a.n - 2 * half s) a.n (row2 h) (row3 n) (row4 b) _
-    n.before.before.fill-rest.result b.before.before.fill-rest2.result c.before.before.fill-rest3.result
-    (omega (arith, split s)) (omega arith) (split s).few s.pre.2
-    (λ f. rw there at (h.before.before.fill.ensures f)) x (rw beyond at y) (rw after at z)
+    let x = c.fill_rest-near.ensures in
+    let y = c.fill_rest-both.ensures in
+    let z = c.fill_rest.ensures in
+    filled a.part.now a.stride a.k a.start (half s) p (left s) (a.n - 2 * half s) a.n (row2 c.before.before.before.before.before.before.before.before.before.before.before.before) (row3 c.before.before.before.before.before.before.before.before) (row4 c.before.before.before.before) _
+    c.fill_rest-near.result c.fill_rest-both.result c.fill_rest.result
+    (omega (arith, split s)) (omega arith) (split s).few s.requires.2
+    (λ f. rw there at (c.fill.ensures f)) x (rw beyond at y) (rw after at z)
 
-pub read-words-spec : {M : Type 1} → statement M
-read-words-spec =
+pub read_words_spec : {M : Type 1} → statement M
+read_words_spec =
     tie.close
     (tie.spec
-    mul-half
-    mul-far
-    div-pairs
+    overflow_mul-half
+    overflow_mul-far
+    nonzero_div-pairs
     fill-requires
-    mul-rest
-    sub-rest
-    mul_at
-    mul-at-2
-    add_at
-    mul-fill-rest
-    fill-rest-requires
-    mul-fill-rest-2
-    add-fill-rest
-    fill-rest-requires-2
-    mul-fill-rest-3
-    add-fill-rest-2
-    mul-fill-rest-4
-    sub-fill-rest
-    fill-rest-requires-3
-    same_length
+    overflow_mul-rest
+    overflow_sub-rest
+    overflow_mul-at
+    overflow_mul-at-2
+    overflow_add-at
+    overflow_mul-pairs
+    fill_rest-near-requires
+    overflow_mul-far-2
+    overflow_add-at-2
+    fill_rest-both-requires
+    overflow_mul-far-3
+    overflow_add-start
+    overflow_mul-half-2
+    overflow_sub-n
+    fill_rest-requires
+    shape_of-room
     returns)

@@ -29,61 +29,58 @@ above s =
     let c = s.args.r * s.args.stride in
     mod-eq_of_lt (omega (arith, small s, div-mul-le_self s.args.ones (2 ^ c)))
 
-mul-cut : tie.Need-overflow-mul-cut
-mul-cut c = omega (arith, cut c.before)
+overflow_mul-cut : tie.Need-overflow_mul-cut
+overflow_mul-cut c = omega (arith, cut c.before)
 
-sub-field : tie.Need-overflow-sub-field
-sub-field c = search rules
+slice_bounds-field-count : tie.Need-slice_bounds-field-count
+slice_bounds-field-count c = search rules
 
-part-field-start : tie.Need-slice-bounds-field-start
-part-field-start c = search rules
+slice_bounds-field-start : tie.Need-slice_bounds-field-start
+slice_bounds-field-start c = search rules
 
-part-field-end : tie.Need-slice-bounds-field-end
-part-field-end c = search rules
+slice_bounds-field-end : tie.Need-slice_bounds-field-end
+slice_bounds-field-end c = search rules
 
 field-requires : tie.Need-field-requires
 field-requires c κs =
-    let s = c.before.before in
-    omega (arith, cut s, s.requires.0, from_length (s.args.at / 8) s.args.part.now)
+    omega (arith, cut c.before.before, c.requires.0, from_length (c.args.at / 8) c.args.part.now)
 
-shr-result : tie.Need-overflow-shr-result
-shr-result c = omega (arith, cut c.before.before.before)
+overflow_shr-result : tie.Need-overflow_shr-result
+overflow_shr-result c = omega (arith, cut c.before.before.before)
 
-shl-result : tie.Need-overflow-shl-result
-shl-result c = omega (arith, cut c.before.before.before)
+overflow_shl-result : tie.Need-overflow_shl-result
+overflow_shl-result c = omega (arith, cut c.before.before.before)
 
-add-result : tie.Need-overflow-add-result
-add-result c =
-    let s = c.before.before.before in
-    let a = s.args in
+overflow_add-result : tie.Need-overflow_add-result
+overflow_add-result c =
+    let a = c.args in
     let n = a.r * a.stride in
-    omega (arith, above s, small s, div-mul-le_self a.ones (2 ^ n), c.field.ensures, bits_below (from (a.at / 8) a.part.now) (a.at % 8) n 57 (cut s))
+    omega (arith, above c.before.before.before, small c.before.before.before, div-mul-le_self a.ones (2 ^ n), c.field.ensures, bits_below (from (a.at / 8) a.part.now) (a.at % 8) n 57 (cut c.before.before.before))
 
 returns : tie.Need-returns
 returns c f =
-    let s = c.before.before.before in
-    let a = s.args in
+    let a = c.args in
     let n = a.r * a.stride in
     let all : a.k ≡ a.r + (a.k - a.r) = omega arith in
     let x = bits_at a.part.now a.at n in
     let ones = ones_of a.stride a.k in
     let field : c.field.result ≡ x = c.field.ensures ∙ from_field a.part.now a.at n in
-    let high : a.ones / 2 ^ n * 2 ^ n % 2 ^ 64 ≡ ones / 2 ^ n * 2 ^ n = above s ∙ ap (λ (y : ℕ). y / 2 ^ n * 2 ^ n) s.requires.2 in
+    let high : a.ones / 2 ^ n * 2 ^ n % 2 ^ 64 ≡ ones / 2 ^ n * 2 ^ n = above c.before.before.before ∙ ap (λ (y : ℕ). y / 2 ^ n * 2 ^ n) c.requires.2 in
     ap (λ (y : ℕ). sum_lanes f a.stride (y + a.ones / 2 ^ n * 2 ^ n % 2 ^ 64) a.k) field
     ∙ ap (λ (y : ℕ). sum_lanes f a.stride (x + y) a.k) high
     ∙ ap (λ (k : ℕ). sum_lanes f a.stride (x + ones_of a.stride k / 2 ^ n * 2 ^ n) k) all
-    ∙ rest_sum f a.part.now a.stride a.at a.r (a.k - a.r) s.requires.0.lane
+    ∙ rest_sum f a.part.now a.stride a.at a.r (a.k - a.r) c.requires.0.lane
 
-pub rest-word-spec : {M : Type 1} → statement M
-rest-word-spec =
+pub rest_word_spec : {M : Type 1} → statement M
+rest_word_spec =
     tie.close
     (tie.spec
-    mul-cut
-    sub-field
-    part-field-start
-    part-field-end
+    overflow_mul-cut
+    slice_bounds-field-count
+    slice_bounds-field-start
+    slice_bounds-field-end
     field-requires
-    shr-result
-    shl-result
-    add-result
+    overflow_shr-result
+    overflow_shl-result
+    overflow_add-result
     returns)

@@ -9,31 +9,27 @@ use Rattle.words.proofs.weigh.Statement.{statement}
 use Rattle.words.proofs.weigh.Tie as tie
 
 -- with no gaps there are six postings to a word, and few words
-six : (c : tie.Then1) → c.before.before.args.k ≡ 6
-six c = c.before.before.requires.0.gapless c.if1.true
+six : (c : tie.Then-w-eq0) → c.args.k ≡ 6
+six c = c.requires.0.gapless c.if-w-eq0.true
 
-few : (c : tie.Then1) → c.before.before.args.count ≤ 64
+few : (c : tie.Then-w-eq0) → c.args.count ≤ 64
 few c =
-    let s = c.before.before in
-    let l : s.args.count * 6 ≤ 128 + 3 * 6 = rw (six c) at s.requires.4 in
+    let l : c.args.count * 6 ≤ 128 + 3 * 6 = rw (six c) at c.requires.4 in
     omega arith
 
 lower-requires : tie.Need-lower-requires
 lower-requires c κs = omega (arith, few c.before)
 
-mul-weigh-lanes : tie.Need-overflow-mul-weigh-lanes
-mul-weigh-lanes c = search rules
+overflow_mul-count : tie.Need-overflow_mul-count
+overflow_mul-count c = search rules
 
-ones-of-requires : tie.Need-ones-of-requires
-ones-of-requires c κs = search rules
+ones_of-requires : tie.Need-ones_of-requires
+ones_of-requires c κs = search rules
 
-weigh-lanes-requires : tie.Need-weigh-lanes-requires
-weigh-lanes-requires c κs =
-    let l = c.before.before.before.before in
-    let i = l.before.before in
-    let s = i.before.before in
-    let small = few i in
-    let long = l.lower.auto.0 ∙ s.requires.5 in
+weigh_lanes-both-requires : tie.Need-weigh_lanes-both-requires
+weigh_lanes-both-requires c κs =
+    let small = few c.before.before.before.before.before in
+    let long = c.lower.auto.room ∙ c.requires.5 in
     let bytes : Packs 8 3 = record {
       width = omega arith;
       some = omega arith;
@@ -43,38 +39,36 @@ weigh-lanes-requires c κs =
       most = omega arith;
     }
     in
-    (omega arith, bytes, c.ones-of.ensures, s.requires.2, omega arith, omega arith)
+    (omega arith, bytes, c.ones_of.ensures, c.requires.2, omega arith, omega arith)
 
-same_length : tie.Need-same-length
-same_length c = search rules
+shape_of-room-then-w-eq0 : tie.Need-shape_of-room-then-w-eq0
+shape_of-room-then-w-eq0 c = search rules
+
+returns-then-w-eq0 : tie.Need-returns-then-w-eq0
+returns-then-w-eq0 c =
+    let a = c.args in
+    weighs_gapless a.w a.k a.largest a.room.now _ a.count c.weigh_lanes-both.result.gaps c.weigh_lanes-both.result.bad c.weigh_lanes-both.result.hit
+    c.if-w-eq0.true (six c.before.before.before.before.before.before) c.lower.ensures c.weigh_lanes-both.ensures
+
+weigh_lanes-requires : tie.Need-weigh_lanes-requires
+weigh_lanes-requires c κs = search rules
+
+shape_of-room : tie.Need-shape_of-room
+shape_of-room c = search rules
 
 returns : tie.Need-returns
-returns c =
-    let l = c.before.before.before.before.before in
-    let i = l.before.before in
-    let a = i.before.before.args in
-    weighs_gapless a.w a.k a.largest a.room.now _ a.count c.weigh-lanes.result.gaps c.weigh-lanes.result.bad c.weigh-lanes.result.hit
-    i.if1.true (six i) l.lower.ensures c.weigh-lanes.ensures
+returns c = search rules
 
-weigh-lanes-requires-2 : tie.Need-weigh-lanes-requires-2
-weigh-lanes-requires-2 c κs = search rules
-
-same-length-2 : tie.Need-same-length-2
-same-length-2 c = search rules
-
-returns-2 : tie.Need-returns-2
-returns-2 c = search rules
-
-pub weigh-spec : {M : Type 1} → statement M
-weigh-spec =
+pub weigh_spec : {M : Type 1} → statement M
+weigh_spec =
     tie.close
     (tie.spec
     lower-requires
-    mul-weigh-lanes
-    ones-of-requires
-    weigh-lanes-requires
-    same_length
-    returns
-    weigh-lanes-requires-2
-    same-length-2
-    returns-2)
+    overflow_mul-count
+    ones_of-requires
+    weigh_lanes-both-requires
+    shape_of-room-then-w-eq0
+    returns-then-w-eq0
+    weigh_lanes-requires
+    shape_of-room
+    returns)

@@ -4,14 +4,19 @@ use borrow.Author.Tests.{eq-eqb, ne_eqb}
 use Rattle.image.proofs.block.closes.Statement.{statement}
 use Rattle.image.proofs.block.closes.Tie as tie
 
-add-if1 : tie.Need-overflow-add-if1
-add-if1 c = search rules
+overflow_add-head : tie.Need-overflow_add-head
+overflow_add-head c = search rules
+
+returns-then-head-after : tie.Need-returns-then-head-after
+returns-then-head-after c = rw (ne_eqb _ _ c.if-head-after.true)
 
 returns : tie.Need-returns
-returns c = rw (ne_eqb _ _ c.if1.true)
+returns c = rw (eq-eqb _ _ c.if-head-after.false)
 
-returns-2 : tie.Need-returns-2
-returns-2 c = rw (eq-eqb _ _ c.before.if1.false)
-
-pub closes-spec : {M : Type 1} → statement M
-closes-spec = tie.close (tie.spec add-if1 returns returns-2)
+pub closes_spec : {M : Type 1} → statement M
+closes_spec =
+    tie.close
+    (tie.spec
+    overflow_add-head
+    returns-then-head-after
+    returns)

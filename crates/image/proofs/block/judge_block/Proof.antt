@@ -18,152 +18,146 @@ use Rattle.image.specs.BlockLaws.{size_most, closing, block_cut, block_odd, bloc
 use Rattle.image.proofs.block.judge_block.Statement.{statement}
 use Rattle.image.proofs.block.judge_block.Tie as tie
 
-small : (c : tie.After-read-head) → HeadBounds (head_fields c.read_head.result)
+small : (c : tie.After-read_head-head) → HeadBounds (head_fields c.read_head-head.result)
 small c =
-    let a = c.before.before.before.before.args in
-    head_bounds a.part.now a.shift (head_fields c.read_head.result) c.read_head.ensures
+    let a = c.args in
+    head_bounds a.part.now a.shift (head_fields c.read_head-head.result) c.read_head-head.ensures
 
-size : (c : tie.After-read-head) → c.read_head.result.width ≤ 24 → c.read_head.result.count * (c.read_head.result.width + 8) ≤ 4096
-size c w = size_most c.read_head.result.count c.read_head.result.width (small c).few w
+size : (c : tie.After-read_head-head) → c.read_head-head.result.width ≤ 24 → c.read_head-head.result.count * (c.read_head-head.result.width + 8) ≤ 4096
+size c w = size_most c.read_head-head.result.count c.read_head-head.result.width (small c).few w
 
-abbrev width : tie.After-read-head → ℕ
-width c = c.read_head.result.width
+abbrev width : tie.After-read_head-head → ℕ
+width c = c.read_head-head.result.width
 
 -- refusal 5 where a head is there
 odd :
-    (c : tie.After-read-head) (t : ℕ) →
-    let a = c.before.before.before.before.args in
-    let h = head_fields c.read_head.result in
+    (c : tie.After-read_head-head) (t : ℕ) →
+    let a = c.args in
+    let h = head_fields c.read_head-head.result in
     (leb h.width 24 && leb h.count a.left && leb (a.shift + size_of h) (8 * length a.part.now)) ≡ false →
     bad 5 t ≡ keep (taken_of a.shift a.next) (block_at a.part.now a.docs t a.shift a.next a.left)
 odd c t e =
-    let a = c.before.before.before.before.args in
+    let a = c.args in
     ap (keep (taken_of a.shift a.next))
-    (sym (block_odd a.part.now a.docs t a.shift a.next a.left (head_fields c.read_head.result) c.read_head.ensures (omega arith) e))
+    (sym (block_odd a.part.now a.docs t a.shift a.next a.left (head_fields c.read_head-head.result) c.read_head-head.ensures (omega arith) e))
 
 -- what the meaning says of the block, by what was found of its postings
 body :
-    (c : tie.After-judge-postings) (t : ℕ) (r : Postings) → c.judge-postings.result ≡ r →
-    let h = c.before.before.before.before.before in
-    let a = h.before.before.before.before.args in
+    (c : tie.After-judge_postings-found) (t : ℕ) (r : Postings) → c.judge_postings-found.result ≡ r →
+    let a = c.args in
     keep (taken_of a.shift a.next) (block_at a.part.now a.docs t a.shift a.next a.left)
-    ≡ (postings_say t r >>= closing t (head_fields h.read_head.result))
+    ≡ (postings_say t r >>= closing t (head_fields c.read_head-head.result))
 body c t r e =
-    let h = c.before.before.before.before.before in
-    let a = h.before.before.before.before.args in
-    let head = head_fields h.read_head.result in
-    block_there a.part.now a.docs t a.shift a.next a.left head h.read_head.ensures (omega arith)
-    (omega arith) (omega arith) (omega arith) (postings_say t r) (ap (postings_say t) (sym e) ∙ c.judge-postings.ensures t)
+    let a = c.args in
+    let head = head_fields c.read_head-head.result in
+    block_there a.part.now a.docs t a.shift a.next a.left head c.read_head-head.ensures (omega arith)
+    (omega arith) (omega arith) (omega arith) (postings_say t r) (ap (postings_say t) (sym e) ∙ c.judge_postings-found.ensures t)
 
-mul-end : tie.Need-overflow-mul-end
-mul-end c = search rules
+overflow_mul-end : tie.Need-overflow_mul-end
+overflow_mul-end c = search rules
 
-add-if1 : tie.Need-overflow-add-if1
-add-if1 c = search rules
+overflow_add-shift : tie.Need-overflow_add-shift
+overflow_add-shift c = search rules
 
-returns : tie.Need-returns
-returns c t =
-    let a = c.before.before.before.args in
+returns-then-end-shift : tie.Need-returns-then-end-shift
+returns-then-end-shift c t =
+    let a = c.args in
     ap (keep (taken_of a.shift a.next)) (sym (block_cut a.part.now a.docs t a.shift a.next a.left (omega arith)))
 
-read-head-requires : tie.Need-read-head-requires
-read-head-requires c κs = search rules
+read_head-head-requires : tie.Need-read_head-head-requires
+read_head-head-requires c κs = search rules
 
-returns-2 : tie.Need-returns-2
-returns-2 c t = odd c.before t (rw (lt-leb (width c.before) 24 (omega arith)))
+returns-then-w-gt24 : tie.Need-returns-then-w-gt24
+returns-then-w-gt24 c t = odd c.before t (rw (lt-leb (width c.before) 24 (omega arith)))
 
-returns-3 : tie.Need-returns-3
-returns-3 c t = odd c.before.before t (rw (le-leb (width c.before.before) 24 (omega arith), lt-leb _ _ c.if3.true))
+returns-then-left-n : tie.Need-returns-then-left-n
+returns-then-left-n c t = odd c.before.before t (rw (le-leb (width c.before.before) 24 (omega arith), lt-leb _ _ c.if-left-n.true))
 
-add-size : tie.Need-overflow-add-size
-add-size c = search rules
+overflow_add-size : tie.Need-overflow_add-size
+overflow_add-size c = search rules
 
-mul-size : tie.Need-overflow-mul-size
-mul-size c = omega (arith, size c.before.before (omega arith))
+overflow_mul-size : tie.Need-overflow_mul-size
+overflow_mul-size c = omega (arith, size c.before.before (omega arith))
 
-add-size-2 : tie.Need-overflow-add-size-2
-add-size-2 c = omega (arith, size c.before.before (omega arith))
+overflow_add-size-2 : tie.Need-overflow_add-size-2
+overflow_add-size-2 c = omega (arith, size c.before.before (omega arith))
 
-add-if4 : tie.Need-overflow-add-if4
-add-if4 c = omega (arith, size c.before.before (omega arith))
+overflow_add-shift-2 : tie.Need-overflow_add-shift-2
+overflow_add-shift-2 c = omega (arith, size c.before.before (omega arith))
 
-returns-4 : tie.Need-returns-4
-returns-4 c t = odd c.before.before.before t (rw (le-leb (width c.before.before.before) 24 (omega arith), le-leb _ _ c.before.if3.false, lt-leb _ _ c.if4.true))
+returns-then-end-shift-2 : tie.Need-returns-then-end-shift-2
+returns-then-end-shift-2 c t = odd c.before.before.before t (rw (le-leb (width c.before.before.before) 24 (omega arith), le-leb _ _ c.if-left-n.false, lt-leb _ _ c.if-end-shift-2.true))
 
-add-judge-postings : tie.Need-overflow-add-judge-postings
-add-judge-postings c = search rules
+overflow_add-shift-3 : tie.Need-overflow_add-shift-3
+overflow_add-shift-3 c = search rules
 
-judge-postings-requires : tie.Need-judge-postings-requires
-judge-postings-requires c κs =
-    let h = c.before.before.before.before in
-    let g = small h in
-    let s = h.before.before.before.before in
+judge_postings-found-requires : tie.Need-judge_postings-found-requires
+judge_postings-found-requires c κs =
+    let g = small c.before.before.before.before in
     record {
-      docs = s.requires.0;
+      docs = c.requires.0;
       width = omega arith;
-      below = s.requires.2;
-      bytes = s.requires.3;
+      below = c.requires.2;
+      bytes = c.requires.3;
       head = omega arith;
       few = g.few;
-      inside = omega (arith, size h (omega arith));
+      inside = omega (arith, size c.before.before.before.before (omega arith));
       largest = g.largest;
-      room = s.requires.4;
+      room = c.requires.4;
     }
 
-enum_told : tie.Need-enum-told
-enum_told c = search rules
+enum_told-1 : tie.Need-enum_told-1
+enum_told-1 c = search rules
 
-enum-known-found : tie.Need-enum-known-found
-enum-known-found c = search rules
+enum_known-found : tie.Need-enum_known-found
+enum_known-found c = search rules
 
 closes-requires : tie.Need-closes-requires
-closes-requires c κs = (small c.before.before.before.before.before.before.before.before.before.before).last
+closes-requires c κs = (small c.before.before.before.before.before.before.before.before).last
 
-same_length : tie.Need-same-length
-same_length c = search rules
+shape_of-room-then-not-closes : tie.Need-shape_of-room-then-not-closes
+shape_of-room-then-not-closes c = search rules
 
-returns-5 : tie.Need-returns-5
-returns-5 c t =
-    let l = c.before in
-    sym (body l.before.before.before.before.before.before t _ l.before.before.found.given.1 ∙ rw (sym l.closes.ensures ∙ not-true l.closes.result c.if5.true))
+returns-then-not-closes : tie.Need-returns-then-not-closes
+returns-then-not-closes c t =
+    sym (body c.before.before.before.before.before t _ c.in-Good.is ∙ rw (sym c.closes.ensures ∙ not-true c.closes.result c.if-not-closes.true-raw))
 
-same-length-2 : tie.Need-same-length-2
-same-length-2 c = search rules
+shape_of-room-in-Wrong : tie.Need-shape_of-room-in-Wrong
+shape_of-room-in-Wrong c = search rules
 
-returns-6 : tie.Need-returns-6
-returns-6 c t = sym (body c.before.before.before.before t _ c.enum_told.given.1)
+returns-in-Wrong : tie.Need-returns-in-Wrong
+returns-in-Wrong c t = sym (body c.before.before.before t _ c.in-Wrong.is)
 
-same-length-3 : tie.Need-same-length-3
-same-length-3 c = search rules
+shape_of-room-else-not-closes : tie.Need-shape_of-room-else-not-closes
+shape_of-room-else-not-closes c = search rules
 
-returns-7 : tie.Need-returns-7
-returns-7 c t =
-    let l = c.before in
-    sym (body l.before.before.before.before.before.before t _ l.before.before.found.given.1 ∙ rw (sym l.closes.ensures ∙ not-false l.closes.result c.if5.false))
+returns-else-not-closes : tie.Need-returns-else-not-closes
+returns-else-not-closes c t =
+    sym (body c.before.before.before.before.before t _ c.in-Good.is ∙ rw (sym c.closes.ensures ∙ not-false c.closes.result c.if-not-closes.false-raw))
 
-pub judge-block-spec : {M : Type 1} → statement M
-judge-block-spec =
+pub judge_block_spec : {M : Type 1} → statement M
+judge_block_spec =
     tie.close
     (tie.spec
-    mul-end
-    add-if1
-    returns
-    read-head-requires
-    returns-2
-    returns-3
-    add-size
-    mul-size
-    add-size-2
-    add-if4
-    returns-4
-    add-judge-postings
-    judge-postings-requires
-    enum_told
-    enum-known-found
+    overflow_mul-end
+    overflow_add-shift
+    returns-then-end-shift
+    read_head-head-requires
+    returns-then-w-gt24
+    returns-then-left-n
+    overflow_add-size
+    overflow_mul-size
+    overflow_add-size-2
+    overflow_add-shift-2
+    returns-then-end-shift-2
+    overflow_add-shift-3
+    judge_postings-found-requires
+    enum_told-1
+    enum_known-found
     closes-requires
-    same_length
-    returns-5
-    same-length-2
-    returns-6
-    same-length-3
-    returns-7)
+    shape_of-room-then-not-closes
+    returns-then-not-closes
+    shape_of-room-in-Wrong
+    returns-in-Wrong
+    shape_of-room-else-not-closes
+    returns-else-not-closes)

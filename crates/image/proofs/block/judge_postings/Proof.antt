@@ -3,41 +3,40 @@ use borrow.Author.Rules.{rules}
 use Rattle.image.proofs.block.judge_postings.Statement.{statement}
 use Rattle.image.proofs.block.judge_postings.Tie as tie
 
-judge-words-requires : tie.Need-judge-words-requires
-judge-words-requires c κs = search rules
+judge_words-found-requires : tie.Need-judge_words-found-requires
+judge_words-found-requires c κs = search rules
 
-enum_told : tie.Need-enum-told
-enum_told c = search rules
+enum_told-1 : tie.Need-enum_told-1
+enum_told-1 c = search rules
 
-judge-each-requires : tie.Need-judge-each-requires
-judge-each-requires c κs = search rules
+judge_each-requires : tie.Need-judge_each-requires
+judge_each-requires c κs = search rules
 
-enum-known-found : tie.Need-enum-known-found
-enum-known-found c = search rules
+enum_known-found : tie.Need-enum_known-found
+enum_known-found c = search rules
 
-same_length : tie.Need-same-length
-same_length c = search rules
+shape_of-room-in-Wrong : tie.Need-shape_of-room-in-Wrong
+shape_of-room-in-Wrong c = search rules
 
-returns : tie.Need-returns
-returns c = search rules
+returns-in-Wrong : tie.Need-returns-in-Wrong
+returns-in-Wrong c = search rules
 
-same-length-2 : tie.Need-same-length-2
-same-length-2 c = search rules
+shape_of-room-in-Good : tie.Need-shape_of-room-in-Good
+shape_of-room-in-Good c = search rules
 
-returns-2 : tie.Need-returns-2
-returns-2 c t =
-    let f = c.before in
-    rw f.found.given.1 at (f.before.before.before.before.judge-words.ensures t)
+returns-in-Good : tie.Need-returns-in-Good
+returns-in-Good c t =
+    rw c.in-Good.is at (c.judge_words-found.ensures t)
 
-pub judge-postings-spec : {M : Type 1} → statement M
-judge-postings-spec =
+pub judge_postings_spec : {M : Type 1} → statement M
+judge_postings_spec =
     tie.close
     (tie.spec
-    judge-words-requires
-    enum_told
-    judge-each-requires
-    enum-known-found
-    same_length
-    returns
-    same-length-2
-    returns-2)
+    judge_words-found-requires
+    enum_told-1
+    judge_each-requires
+    enum_known-found
+    shape_of-room-in-Wrong
+    returns-in-Wrong
+    shape_of-room-in-Good
+    returns-in-Good)

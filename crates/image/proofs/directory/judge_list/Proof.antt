@@ -13,73 +13,68 @@ use Rattle.image.proofs.directory.judge_list.Tie as tie
 
 -- what the meaning says of the term, by what was found of its blocks
 found :
-    (c : tie.After-judge-blocks) (r : Blocks) → c.judge-blocks.result ≡ r →
-    let h = c.before.before.before.before in
-    let a = h.before.before.before.args in
-    keep stop_of (terms_at a.image.now a.docs a.term a.due 1) ≡ (blocks_say a.term r >>= finished a.term (entry_fields h.read-entry.result))
+    (c : tie.After-judge_blocks-found) (r : Blocks) → c.judge_blocks-found.result ≡ r →
+    let a = c.args in
+    keep stop_of (terms_at a.image.now a.docs a.term a.due 1) ≡ (blocks_say a.term r >>= finished a.term (entry_fields c.read_entry-entry.result))
 found c r q =
-    let f = c.before.before.before in
-    let h = f.before in
-    let a = h.before.before.before.args in
-    list_there a.image.now a.docs a.term a.due (entry_fields h.read-entry.result) h.read-entry.ensures
-    (sym f.entry-fits.ensures ∙ not-false f.entry-fits.result c.before.before.if1.false) (blocks_say a.term r)
-    (ap (blocks_say a.term) (sym q) ∙ c.judge-blocks.ensures a.term)
+    let a = c.args in
+    list_there a.image.now a.docs a.term a.due (entry_fields c.read_entry-entry.result) c.read_entry-entry.ensures
+    (sym c.entry_fits.ensures ∙ not-false c.entry_fits.result c.if-not-entry_fits.false-raw) (blocks_say a.term r)
+    (ap (blocks_say a.term) (sym q) ∙ c.judge_blocks-found.ensures a.term)
 
-read-entry-requires : tie.Need-read-entry-requires
-read-entry-requires c κs = search rules
+read_entry-entry-requires : tie.Need-read_entry-entry-requires
+read_entry-entry-requires c κs = search rules
 
-entry-fits-requires : tie.Need-entry-fits-requires
-entry-fits-requires c κs = search rules
+entry_fits-requires : tie.Need-entry_fits-requires
+entry_fits-requires c κs = search rules
 
-returns : tie.Need-returns
-returns c =
-    let f = c.before in
-    let h = f.before in
-    let a = h.before.before.before.args in
+returns-then-not-entry_fits : tie.Need-returns-then-not-entry_fits
+returns-then-not-entry_fits c =
+    let a = c.args in
     sym
-    (list_odd a.image.now a.docs a.term a.due (entry_fields h.read-entry.result) h.read-entry.ensures
-    (sym f.entry-fits.ensures ∙ not-true f.entry-fits.result c.if1.true))
+    (list_odd a.image.now a.docs a.term a.due (entry_fields c.read_entry-entry.result) c.read_entry-entry.ensures
+    (sym c.entry_fits.ensures ∙ not-true c.entry_fits.result c.if-not-entry_fits.true-raw))
 
-judge-blocks-requires : tie.Need-judge-blocks-requires
-judge-blocks-requires c κs = search rules
+judge_blocks-found-requires : tie.Need-judge_blocks-found-requires
+judge_blocks-found-requires c κs = search rules
 
-enum-known-found : tie.Need-enum-known-found
-enum-known-found c = search rules
+enum_known-found : tie.Need-enum_known-found
+enum_known-found c = search rules
 
-enum-known-found-2 : tie.Need-enum-known-found-2
-enum-known-found-2 c = search rules
+enum_known-found-in-Good-1 : tie.Need-enum_known-found-in-Good-1
+enum_known-found-in-Good-1 c = search rules
 
-same_length : tie.Need-same-length
-same_length c = search rules
+shape_of-room-then-largest-top : tie.Need-shape_of-room-then-largest-top
+shape_of-room-then-largest-top c = search rules
 
-returns-2 : tie.Need-returns-2
-returns-2 c = sym (found c.before.before.before.before.before.before _ c.before.before.found2.given.1 ∙ rw (ne_eqb _ _ c.if2.true))
+returns-then-largest-top : tie.Need-returns-then-largest-top
+returns-then-largest-top c = sym (found c.before.before.before.before _ c.in-Good.is ∙ rw (ne_eqb _ _ c.if-largest-top.true))
 
-same-length-2 : tie.Need-same-length-2
-same-length-2 c = search rules
+shape_of-room-in-Wrong : tie.Need-shape_of-room-in-Wrong
+shape_of-room-in-Wrong c = search rules
 
-returns-3 : tie.Need-returns-3
-returns-3 c = sym (found c.before.before.before.before.before _ c.before.found.given.1)
+returns-in-Wrong : tie.Need-returns-in-Wrong
+returns-in-Wrong c = sym (found c.before.before.before _ c.in-Wrong.is)
 
-same-length-3 : tie.Need-same-length-3
-same-length-3 c = search rules
+shape_of-room-else-largest-top : tie.Need-shape_of-room-else-largest-top
+shape_of-room-else-largest-top c = search rules
 
-returns-4 : tie.Need-returns-4
-returns-4 c = sym (found c.before.before.before.before.before.before _ c.before.before.found2.given.1 ∙ rw (eq-eqb _ _ c.if2.false))
+returns-else-largest-top : tie.Need-returns-else-largest-top
+returns-else-largest-top c = sym (found c.before.before.before.before _ c.in-Good.is ∙ rw (eq-eqb _ _ c.if-largest-top.false))
 
-pub judge-list-spec : {M : Type 1} → statement M
-judge-list-spec =
+pub judge_list_spec : {M : Type 1} → statement M
+judge_list_spec =
     tie.close
     (tie.spec
-    read-entry-requires
-    entry-fits-requires
-    returns
-    judge-blocks-requires
-    enum-known-found
-    enum-known-found-2
-    same_length
-    returns-2
-    same-length-2
-    returns-3
-    same-length-3
-    returns-4)
+    read_entry-entry-requires
+    entry_fits-requires
+    returns-then-not-entry_fits
+    judge_blocks-found-requires
+    enum_known-found
+    enum_known-found-in-Good-1
+    shape_of-room-then-largest-top
+    returns-then-largest-top
+    shape_of-room-in-Wrong
+    returns-in-Wrong
+    shape_of-room-else-largest-top
+    returns-else-largest-top)

@@ -12,97 +12,91 @@ use Rattle.image.specs.DirectoryLaws.{stop_inside, terms_turn, terms_end}
 use Rattle.image.proofs.directory.judge_lists.Statement.{statement}
 use Rattle.image.proofs.directory.judge_lists.Tie as tie
 
-abbrev invariant-loop : tie.invariant-loop
-invariant-loop image docs terms room₀ due₀ term₀ room due term =
+abbrev invariant-loop-term : tie.invariant-loop-term
+invariant-loop-term image docs terms room₀ due₀ term₀ room due term =
     (term ≤ terms)
     × (due ≤ 8 * length image)
     × (keep stop_of (terms_at image docs term due (terms - term)) ≡ keep stop_of (terms_at image docs 0 (64 + 64 * terms) terms))
     × (length room ≡ 128)
 
-abbrev decreases-loop : tie.decreases-loop
-decreases-loop image docs terms room₀ due₀ term₀ room due term = terms - term
+abbrev decreases-loop-term : tie.decreases-loop-term
+decreases-loop-term image docs terms room₀ due₀ term₀ room due term = terms - term
 
 -- what is said of all, by the term at hand
 turn :
-    (c : tie.After-judge-list invariant-loop decreases-loop) (r : Listed) → c.judge-list.result ≡ r →
-    let l = c.before.before.before in
-    let a = l.before.before.args in
+    (c : tie.After-judge_list-found invariant-loop-term decreases-loop-term) (r : Listed) → c.judge_list-found.result ≡ r →
+    let a = c.args in
     keep stop_of (terms_at a.image.now a.docs 0 (64 + 64 * a.terms) a.terms)
-    ≡ (list_says l.loop.term r >>= λ stop. keep stop_of (terms_at a.image.now a.docs (l.loop.term + 1) stop (a.terms - (l.loop.term + 1))))
+    ≡ (list_says c.loop-term.term r >>= λ stop. keep stop_of (terms_at a.image.now a.docs (c.loop-term.term + 1) stop (a.terms - (c.loop-term.term + 1))))
 turn c r e =
-    let l = c.before.before.before in
-    let a = l.before.before.args in
-    sym l.loop.invariant.2
-    ∙ terms_turn a.image.now a.docs l.loop.term l.loop.due (a.terms - l.loop.term) (a.terms - (l.loop.term + 1)) (omega arith)
-    (list_says l.loop.term r) (ap (list_says l.loop.term) (sym e) ∙ c.judge-list.ensures)
+    let a = c.args in
+    sym c.loop-term.invariant.2
+    ∙ terms_turn a.image.now a.docs c.loop-term.term c.loop-term.due (a.terms - c.loop-term.term) (a.terms - (c.loop-term.term + 1)) (omega arith)
+    (list_says c.loop-term.term r) (ap (list_says c.loop-term.term) (sym e) ∙ c.judge_list-found.ensures)
 
-mul-due : tie.Need-overflow-mul-due invariant-loop decreases-loop
-mul-due c = search rules
+overflow_mul-due : tie.Need-overflow_mul-due invariant-loop-term decreases-loop-term
+overflow_mul-due c = search rules
 
-add-due : tie.Need-overflow-add-due invariant-loop decreases-loop
-add-due c = search rules
+overflow_add-due : tie.Need-overflow_add-due invariant-loop-term decreases-loop-term
+overflow_add-due c = search rules
 
-loop-holds : tie.Need-loop-init invariant-loop decreases-loop
-loop-holds c =
-    let a = c.before.args in
+loop-term-init : tie.Need-loop-term-init invariant-loop-term decreases-loop-term
+loop-term-init c =
+    let a = c.args in
     let none : a.terms - 0 ≡ a.terms = omega arith in
     (omega arith, omega arith, rw none, refl)
 
-slice-aggregate-judge-list : tie.Need-slice-aggregate-judge-list invariant-loop decreases-loop
-slice-aggregate-judge-list c = sym c.before.before.loop.invariant.3
+slice_bounds-judge_list-end : tie.Need-slice_bounds-judge_list-end invariant-loop-term decreases-loop-term
+slice_bounds-judge_list-end c = sym c.loop-term.invariant.3
 
-judge-list-requires : tie.Need-judge-list-requires invariant-loop decreases-loop
-judge-list-requires c κs = omega arith
+judge_list-found-requires : tie.Need-judge_list-found-requires invariant-loop-term decreases-loop-term
+judge_list-found-requires c κs = omega arith
 
-enum-known-found : tie.Need-enum-known-found invariant-loop decreases-loop
-enum-known-found c = search rules
+enum_known-found : tie.Need-enum_known-found invariant-loop-term decreases-loop-term
+enum_known-found c = search rules
 
-returns : tie.Need-returns invariant-loop decreases-loop
-returns c = sym (turn c.before.before.before.before _ c.before.found.given.1)
+returns-in-Wrong : tie.Need-returns-in-Wrong invariant-loop-term decreases-loop-term
+returns-in-Wrong c = sym (turn c.before.before _ c.in-Wrong.is)
 
-enum-known-found-2 : tie.Need-enum-known-found-2 invariant-loop decreases-loop
-enum-known-found-2 c = search rules
+enum_known-found-in-Good-1 : tie.Need-enum_known-found-in-Good-1 invariant-loop-term decreases-loop-term
+enum_known-found-in-Good-1 c = search rules
 
-add_term : tie.Need-overflow-add-term invariant-loop decreases-loop
-add_term c = search rules
+overflow_add-term : tie.Need-overflow_add-term invariant-loop-term decreases-loop-term
+overflow_add-term c = search rules
 
-loop-less : tie.Need-loop-smaller invariant-loop decreases-loop
-loop-less c = omega arith
+loop-term-smaller : tie.Need-loop-term-smaller invariant-loop-term decreases-loop-term
+loop-term-smaller c = omega arith
 
-loop-again : tie.Need-loop-preserved invariant-loop decreases-loop
-loop-again c =
-    let f = c.before in
-    let j = f.before.before.before in
-    let l = j.before.before.before in
-    let a = l.before.before.args in (
+loop-term-preserved : tie.Need-loop-term-preserved invariant-loop-term decreases-loop-term
+loop-term-preserved c =
+    let a = c.args in (
       omega arith,
-      stop_inside a.image.now a.docs l.loop.term l.loop.due 1 _ l.loop.invariant.1
-          (ap (list_says l.loop.term) (sym f.found2.given.1) ∙ j.judge-list.ensures),
-      sym (turn j _ f.found2.given.1),
-      j.judge-list.auto.1.1.1.1.0 ∙ l.loop.invariant.3,
+      stop_inside a.image.now a.docs c.loop-term.term c.loop-term.due 1 _ c.loop-term.invariant.1
+          (ap (list_says c.loop-term.term) (sym c.in-Good.is) ∙ c.judge_list-found.ensures),
+      sym (turn c.before.before _ c.in-Good.is),
+      c.judge_list-found.auto.room ∙ c.loop-term.invariant.3,
     )
 
-returns-2 : tie.Need-returns-2 invariant-loop decreases-loop
-returns-2 c =
-    let l = c.before in
-    let a = l.before.before.args in
-    sym (terms_end a.image.now a.docs l.loop.term l.loop.due (a.terms - l.loop.term) (omega arith)) ∙ l.loop.invariant.2
+returns : tie.Need-returns invariant-loop-term decreases-loop-term
+returns c =
+    let a = c.args in
+    sym (terms_end a.image.now a.docs c.loop-term.term c.loop-term.due (a.terms - c.loop-term.term) (omega arith)) ∙ c.loop-term.invariant.2
 
-pub judge-lists-spec : {M : Type 1} → statement M
-judge-lists-spec =
+pub judge_lists_spec : {M : Type 1} → statement M
+judge_lists_spec =
     tie.close
     (tie.spec
-    invariant-loop
-    decreases-loop
-    mul-due
-    add-due
-    loop-holds
-    slice-aggregate-judge-list
-    judge-list-requires
-    enum-known-found
-    returns
-    enum-known-found-2
-    add_term
-    loop-less
-    loop-again
-    returns-2)
+    invariant-loop-term
+    decreases-loop-term
+    overflow_mul-due
+    overflow_add-due
+    loop-term-init
+    slice_bounds-judge_list-end
+    judge_list-found-requires
+    enum_known-found
+    returns-in-Wrong
+    enum_known-found-in-Good-1
+    overflow_add-term
+    loop-term-smaller
+    loop-term-preserved
+    returns)

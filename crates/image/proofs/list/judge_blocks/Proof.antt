@@ -14,145 +14,133 @@ use Rattle.image.specs.ListLaws.{Fits, ended_from, block_fits, blocks_start, blo
 use Rattle.image.proofs.list.judge_blocks.Statement.{statement}
 use Rattle.image.proofs.list.judge_blocks.Tie as tie
 
-abbrev invariant-loop : tie.invariant-loop
-invariant-loop image docs start count room₀ bit₀ next₀ left₀ top₀ room bit next left top =
+abbrev invariant-loop-left : tie.invariant-loop-left
+invariant-loop-left image docs start count room₀ bit₀ next₀ left₀ top₀ room bit next left top =
     (bit ≤ 8 * length image)
     × (next ≤ docs)
     × ((t : ℕ) → keep (ended_from top) (blocks_at image docs t left bit next left) ≡ keep ended_of (blocks_at image docs t count start 0 count))
     × (length room ≡ length room₀)
 
-abbrev decreases-loop : tie.decreases-loop
-decreases-loop image docs start count room₀ bit₀ next₀ left₀ top₀ room bit next left top = left
+abbrev decreases-loop-left : tie.decreases-loop-left
+decreases-loop-left image docs start count room₀ bit₀ next₀ left₀ top₀ room bit next left top = left
 
 -- what the meaning says of the block at hand
 block :
-    (c : tie.After-judge-block invariant-loop decreases-loop) (t : ℕ) (r : Block) → c.judge-block.result ≡ r →
-    let l = c.before.before.before.before in
-    let a = l.before.before.before.args in
-    block_says t r ≡ keep (taken_of l.loop.bit l.loop.next) (block_at a.image.now a.docs t l.loop.bit l.loop.next l.loop.left)
+    (c : tie.After-judge_block-found invariant-loop-left decreases-loop-left) (t : ℕ) (r : Block) → c.judge_block-found.result ≡ r →
+    let a = c.args in
+    block_says t r ≡ keep (taken_of c.loop-left.bit c.loop-left.next) (block_at a.image.now a.docs t c.loop-left.bit c.loop-left.next c.loop-left.left)
 block c t r e =
-    let l = c.before.before.before.before in
-    let a = l.before.before.before.args in
-    ap (block_says t) (sym e) ∙ c.judge-block.ensures t ∙ block_part a.image.now a.docs t l.loop.bit l.loop.next l.loop.left l.loop.invariant.0
+    let a = c.args in
+    ap (block_says t) (sym e) ∙ c.judge_block-found.ensures t ∙ block_part a.image.now a.docs t c.loop-left.bit c.loop-left.next c.loop-left.left c.loop-left.invariant.0
 
 -- what is kept of the list after a block that takes k
-abbrev rest : tie.At-loop invariant-loop decreases-loop → ℕ → Taken → Judged Ended
+abbrev rest : tie.At-loop-left invariant-loop-left decreases-loop-left → ℕ → Taken → Judged Ended
 rest l t k =
-    let a = l.before.before.before.args in
-    let left = l.loop.left - k.postings in
-    keep (ended_from (max l.loop.top k.largest)) (blocks_at a.image.now a.docs t left (l.loop.bit + k.bits) k.next left)
+    let a = l.args in
+    let left = l.loop-left.left - k.postings in
+    keep (ended_from (max l.loop-left.top k.largest)) (blocks_at a.image.now a.docs t left (l.loop-left.bit + k.bits) k.next left)
 
 -- what is kept of the list, by the block at hand
 turn :
-    (c : tie.After-judge-block invariant-loop decreases-loop) (t : ℕ) (r : Block) → c.judge-block.result ≡ r →
-    let l = c.before.before.before.before in
-    let a = l.before.before.before.args in
-    keep ended_of (blocks_at a.image.now a.docs t a.count a.start 0 a.count) ≡ (block_says t r >>= rest l t)
+    (c : tie.After-judge_block-found invariant-loop-left decreases-loop-left) (t : ℕ) (r : Block) → c.judge_block-found.result ≡ r →
+    let a = c.args in
+    keep ended_of (blocks_at a.image.now a.docs t a.count a.start 0 a.count) ≡ (block_says t r >>= rest c.before.before.before.before t)
 turn c t r e =
-    let l = c.before.before.before.before in
-    let a = l.before.before.before.args in
-    sym (l.loop.invariant.2 t)
-    ∙ blocks_turn a.image.now a.docs t l.loop.bit l.loop.next l.loop.left l.loop.top c.before.before.before.loop-test.true
+    let a = c.args in
+    sym (c.loop-left.invariant.2 t)
+    ∙ blocks_turn a.image.now a.docs t c.loop-left.bit c.loop-left.next c.loop-left.left c.loop-left.top c.loop-left-test.true
     (block_says t r) (block c t r e)
 
 -- what a good block takes
 fits :
-    (c : tie.After-found2 invariant-loop decreases-loop) →
-    let l = c.before.before.before.before.before.before.before.before in
-    let a = l.before.before.before.args in
-    let v = c.found2.given.0 in
-    Fits a.image.now a.docs l.loop.bit l.loop.left (record { bits = v.0; postings = v.1.0; next = v.1.1.0; largest = v.1.1.1.0 })
+    (c : tie.In-Good invariant-loop-left decreases-loop-left) →
+    let a = c.args in
+    let v = c.in-Good in
+    Fits a.image.now a.docs c.loop-left.bit c.loop-left.left (record { bits = v.size; postings = v.postings; next = v.after; largest = v.largest })
 fits c =
-    let j = c.before.before.before.before in
-    let l = j.before.before.before.before in
-    let a = l.before.before.before.args in
-    block_fits a.image.now a.docs 0 l.loop.bit l.loop.next l.loop.left _ l.loop.invariant.1
-    (block j 0 _ c.found2.given.1)
+    let a = c.args in
+    block_fits a.image.now a.docs 0 c.loop-left.bit c.loop-left.next c.loop-left.left _ c.loop-left.invariant.1
+    (block c.before.before.before 0 _ c.in-Good.is)
 
-loop-holds : tie.Need-loop-init invariant-loop decreases-loop
-loop-holds c =
-    let a = c.before.before.args in
+loop-left-init : tie.Need-loop-left-init invariant-loop-left decreases-loop-left
+loop-left-init c =
+    let a = c.args in
     (search rules, search rules, (λ t. blocks_start a.image.now a.docs t a.start 0 a.count), refl)
 
-sub-judge-block : tie.Need-overflow-sub-judge-block invariant-loop decreases-loop
-sub-judge-block c = search rules
+slice_bounds-judge_block-count : tie.Need-slice_bounds-judge_block-count invariant-loop-left decreases-loop-left
+slice_bounds-judge_block-count c = search rules
 
-part-judge-block-start : tie.Need-slice-bounds-judge-block-start invariant-loop decreases-loop
-part-judge-block-start c = search rules
+slice_bounds-judge_block-start : tie.Need-slice_bounds-judge_block-start invariant-loop-left decreases-loop-left
+slice_bounds-judge_block-start c = search rules
 
-part-judge-block-end : tie.Need-slice-bounds-judge-block-end invariant-loop decreases-loop
-part-judge-block-end c = search rules
+slice_bounds-judge_block-end : tie.Need-slice_bounds-judge_block-end invariant-loop-left decreases-loop-left
+slice_bounds-judge_block-end c = search rules
 
-judge-block-requires : tie.Need-judge-block-requires invariant-loop decreases-loop
-judge-block-requires c κs =
-    let l = c.before.before.before in
-    omega (arith, from_length (l.loop.bit / 8) l.before.before.before.args.image.now)
+judge_block-found-requires : tie.Need-judge_block-found-requires invariant-loop-left decreases-loop-left
+judge_block-found-requires c κs =
+    omega (arith, from_length (c.loop-left.bit / 8) c.args.image.now)
 
-enum-known-found : tie.Need-enum-known-found invariant-loop decreases-loop
-enum-known-found c = search rules
+enum_known-found : tie.Need-enum_known-found invariant-loop-left decreases-loop-left
+enum_known-found c = search rules
 
-same_length : tie.Need-same-length invariant-loop decreases-loop
-same_length c =
-    let j = c.before.before.before.before.before in
-    j.judge-block.auto.1.1.1.1.1.0 ∙ j.before.before.before.before.loop.invariant.3
+shape_of-room-in-Wrong : tie.Need-shape_of-room-in-Wrong invariant-loop-left decreases-loop-left
+shape_of-room-in-Wrong c =
+    c.judge_block-found.auto.room ∙ c.loop-left.invariant.3
 
-returns : tie.Need-returns invariant-loop decreases-loop
-returns c t = sym (turn c.before.before.before.before.before t _ c.before.found.given.1)
+returns-in-Wrong : tie.Need-returns-in-Wrong invariant-loop-left decreases-loop-left
+returns-in-Wrong c t = sym (turn c.before.before.before t _ c.in-Wrong.is)
 
-enum-known-found-2 : tie.Need-enum-known-found-2 invariant-loop decreases-loop
-enum-known-found-2 c = search rules
+enum_known-found-in-Good-1 : tie.Need-enum_known-found-in-Good-1 invariant-loop-left decreases-loop-left
+enum_known-found-in-Good-1 c = search rules
 
-add-bit : tie.Need-overflow-add-bit invariant-loop decreases-loop
-add-bit c = omega (arith, fits c.before)
+overflow_add-bit : tie.Need-overflow_add-bit invariant-loop-left decreases-loop-left
+overflow_add-bit c = omega (arith, fits c)
 
-sub-left : tie.Need-overflow-sub-left invariant-loop decreases-loop
-sub-left c = omega (arith, fits c.before)
+overflow_sub-left : tie.Need-overflow_sub-left invariant-loop-left decreases-loop-left
+overflow_sub-left c = omega (arith, fits c)
 
-larger-requires : tie.Need-larger-requires invariant-loop decreases-loop
-larger-requires c κs = search rules
+larger-top-requires : tie.Need-larger-top-requires invariant-loop-left decreases-loop-left
+larger-top-requires c κs = search rules
 
-loop-less : tie.Need-loop-smaller invariant-loop decreases-loop
-loop-less c = omega (arith, fits c.before.before)
+loop-left-smaller : tie.Need-loop-left-smaller invariant-loop-left decreases-loop-left
+loop-left-smaller c = omega (arith, fits c.before)
 
-loop-again : tie.Need-loop-preserved invariant-loop decreases-loop
-loop-again c =
-    let f = c.before.before in
-    let j = f.before.before.before.before in
-    let g = fits f in (
+loop-left-preserved : tie.Need-loop-left-preserved invariant-loop-left decreases-loop-left
+loop-left-preserved c =
+    let g = fits c.before in (
       omega arith,
       omega arith,
-      (λ t. rw c.larger.ensures (sym (turn j t _ f.found2.given.1))),
-      j.judge-block.auto.1.1.1.1.1.0 ∙ j.before.before.before.before.loop.invariant.3,
+      (λ t. rw c.larger-top.ensures (sym (turn c.before.before.before.before t _ c.in-Good.is))),
+      c.judge_block-found.auto.room ∙ c.loop-left.invariant.3,
     )
 
-same-length-2 : tie.Need-same-length-2 invariant-loop decreases-loop
-same-length-2 c = search rules
+shape_of-room : tie.Need-shape_of-room invariant-loop-left decreases-loop-left
+shape_of-room c = search rules
 
-returns-2 : tie.Need-returns-2 invariant-loop decreases-loop
-returns-2 c t =
-    let l = c.before in
-    let a = l.before.before.before.args in
-    sym (blocks_end a.image.now a.docs t l.loop.bit l.loop.next l.loop.left l.loop.top (omega arith)) ∙ l.loop.invariant.2 t
+returns : tie.Need-returns invariant-loop-left decreases-loop-left
+returns c t =
+    let a = c.args in
+    sym (blocks_end a.image.now a.docs t c.loop-left.bit c.loop-left.next c.loop-left.left c.loop-left.top (omega arith)) ∙ c.loop-left.invariant.2 t
 
-pub judge-blocks-spec : {M : Type 1} → statement M
-judge-blocks-spec =
+pub judge_blocks_spec : {M : Type 1} → statement M
+judge_blocks_spec =
     tie.close
     (tie.spec
-    invariant-loop
-    decreases-loop
-    loop-holds
-    sub-judge-block
-    part-judge-block-start
-    part-judge-block-end
-    judge-block-requires
-    enum-known-found
-    same_length
-    returns
-    enum-known-found-2
-    add-bit
-    sub-left
-    larger-requires
-    loop-less
-    loop-again
-    same-length-2
-    returns-2)
+    invariant-loop-left
+    decreases-loop-left
+    loop-left-init
+    slice_bounds-judge_block-count
+    slice_bounds-judge_block-start
+    slice_bounds-judge_block-end
+    judge_block-found-requires
+    enum_known-found
+    shape_of-room-in-Wrong
+    returns-in-Wrong
+    enum_known-found-in-Good-1
+    overflow_add-bit
+    overflow_sub-left
+    larger-top-requires
+    loop-left-smaller
+    loop-left-preserved
+    shape_of-room
+    returns)

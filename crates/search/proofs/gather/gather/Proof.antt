@@ -8,90 +8,88 @@ use Rattle.search.specs.GatherLaws.{gathered_none, gathered_more}
 use Rattle.search.proofs.gather.gather.Statement.{statement}
 use Rattle.search.proofs.gather.gather.Tie as tie
 
-abbrev invariant-loop : tie.invariant-loop
-invariant-loop image sheet pairs q ms₀ i₀ ms i = (i ≤ q) × Gathered image sheet pairs i ms
+abbrev invariant-loop-i : tie.invariant-loop-i
+invariant-loop-i image sheet pairs q ms₀ i₀ ms i = (i ≤ q) × Gathered image sheet pairs i ms
 
-abbrev decreases-loop : tie.decreases-loop
-decreases-loop image sheet pairs q ms₀ i₀ ms i = q - i
+abbrev decreases-loop-i : tie.decreases-loop-i
+decreases-loop-i image sheet pairs q ms₀ i₀ ms i = q - i
 
-loop-holds : tie.Need-loop-init invariant-loop decreases-loop
-loop-holds c =
-    let a = c.before.before.args in
+loop-i-init : tie.Need-loop-i-init invariant-loop-i decreases-loop-i
+loop-i-init c =
+    let a = c.args in
     (search rules, gathered_none a.image.now a.sheet.now a.pairs _ refl)
 
-mul_at : tie.Need-overflow-mul-at invariant-loop decreases-loop
-mul_at c = search rules
+overflow_mul-at : tie.Need-overflow_mul-at invariant-loop-i decreases-loop-i
+overflow_mul-at c = search rules
 
-add_at : tie.Need-overflow-add-at invariant-loop decreases-loop
-add_at c = search rules
+overflow_add-at : tie.Need-overflow_add-at invariant-loop-i decreases-loop-i
+overflow_add-at c = search rules
 
-mul-mention : tie.Need-overflow-mul-mention invariant-loop decreases-loop
-mul-mention c = search rules
+offset_bounds-sheet-at : tie.Need-offset_bounds-sheet-at invariant-loop-i decreases-loop-i
+offset_bounds-sheet-at c = search rules
 
-shared-slice-read-mention : tie.Need-shared-slice-read-mention invariant-loop decreases-loop
-shared-slice-read-mention c = search rules
+bounds-sheet-at : tie.Need-bounds-sheet-at invariant-loop-i decreases-loop-i
+bounds-sheet-at c = search rules
 
-add-mention : tie.Need-overflow-add-mention invariant-loop decreases-loop
-add-mention c = search rules
+overflow_add-at-in-loop-i : tie.Need-overflow_add-at-in-loop-i invariant-loop-i decreases-loop-i
+overflow_add-at-in-loop-i c = search rules
 
-mul-mention-2 : tie.Need-overflow-mul-mention-2 invariant-loop decreases-loop
-mul-mention-2 c = search rules
+offset_bounds-sheet-at-in-loop-i : tie.Need-offset_bounds-sheet-at-in-loop-i invariant-loop-i decreases-loop-i
+offset_bounds-sheet-at-in-loop-i c = search rules
 
-shared-slice-read-mention-2 : tie.Need-shared-slice-read-mention-2 invariant-loop decreases-loop
-shared-slice-read-mention-2 c = search rules
+bounds-sheet-at-in-loop-i : tie.Need-bounds-sheet-at-in-loop-i invariant-loop-i decreases-loop-i
+bounds-sheet-at-in-loop-i c = search rules
 
-mention-requires : tie.Need-mention-requires invariant-loop decreases-loop
-mention-requires c κs =
-    let x = c.before.before.before.before.before.before in
-    let i = c.before.before.before.loop.i in
-    let h : i < x.args.q = omega (arith, c.before.before.loop-test.true) in
-    (x.requires.0, x.requires.1.term i h, x.requires.1.least i h, x.requires.1.most i h)
+mention-m-requires : tie.Need-mention-m-requires invariant-loop-i decreases-loop-i
+mention-m-requires c κs =
+    let i = c.loop-i.i in
+    let h : i < c.args.q = omega (arith, c.loop-i-test.true) in
+    (c.requires.0, c.requires.1.term i h, c.requires.1.least i h, c.requires.1.most i h)
 
-mul-ms : tie.Need-overflow-mul-ms invariant-loop decreases-loop
-mul-ms c = search rules
+offset_bounds-ms-i : tie.Need-offset_bounds-ms-i invariant-loop-i decreases-loop-i
+offset_bounds-ms-i c = search rules
 
-array-set-from-ms : tie.Need-array-set-from-ms invariant-loop decreases-loop
-array-set-from-ms c = search rules
+bounds-ms-i : tie.Need-bounds-ms-i invariant-loop-i decreases-loop-i
+bounds-ms-i c = search rules
 
-add-i : tie.Need-overflow-add-i invariant-loop decreases-loop
-add-i c = search rules
+overflow_add-i : tie.Need-overflow_add-i invariant-loop-i decreases-loop-i
+overflow_add-i c = search rules
 
-loop-less : tie.Need-loop-smaller invariant-loop decreases-loop
-loop-less c = search rules
+loop-i-smaller : tie.Need-loop-i-smaller invariant-loop-i decreases-loop-i
+loop-i-smaller c = search rules
 
-loop-again : tie.Need-loop-preserved invariant-loop decreases-loop
-loop-again c =
-    let x = c.before.before.before.before.before.before.before in
-    let l = c.before.before.before.before.loop in
-    let a = x.args in (
+loop-i-preserved : tie.Need-loop-i-preserved invariant-loop-i decreases-loop-i
+loop-i-preserved c =
+    let l = c.loop-i in
+    let a = c.args in (
       search rules,
-      gathered_more a.image.now a.sheet.now a.pairs l.i l.ms c.mention.result l.invariant.1 (omega (arith, c.before.before.before.loop-test.true, x.requires.1.few)) c.mention.ensures,
+      gathered_more a.image.now a.sheet.now a.pairs l.i l.ms c.mention-m.result l.invariant.1 (omega (arith, c.loop-i-test.true, c.requires.1.few)) c.mention-m.ensures,
     )
 
-returns : tie.Need-returns invariant-loop decreases-loop
+returns : tie.Need-returns invariant-loop-i decreases-loop-i
 returns c =
-    let l = c.before.loop in
-    let e : l.i ≡ c.before.before.before.before.args.q = omega (arith, c.loop-test.false) in
+    let l = c.loop-i in
+    let e : l.i ≡ c.args.q = omega (arith, c.loop-i-test.false) in
     rw e at l.invariant.1
 
-pub gather-spec : {M : Type 1} → statement M
-gather-spec =
+pub gather_spec : {M : Type 1} → statement M
+gather_spec =
     tie.close
     (tie.spec
-    invariant-loop
-    decreases-loop
-    loop-holds
-    mul_at
-    add_at
-    mul-mention
-    shared-slice-read-mention
-    add-mention
-    mul-mention-2
-    shared-slice-read-mention-2
-    mention-requires
-    mul-ms
-    array-set-from-ms
-    add-i
-    loop-less
-    loop-again
+    invariant-loop-i
+    decreases-loop-i
+    loop-i-init
+    overflow_mul-at
+    overflow_add-at
+    offset_bounds-sheet-at
+    bounds-sheet-at
+    overflow_add-at-in-loop-i
+    offset_bounds-sheet-at-in-loop-i
+    bounds-sheet-at-in-loop-i
+    mention-m-requires
+    offset_bounds-ms-i
+    bounds-ms-i
+    overflow_add-i
+    loop-i-smaller
+    loop-i-preserved
     returns)
