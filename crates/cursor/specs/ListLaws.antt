@@ -6,10 +6,11 @@ use Rattle.meaning.specs.Judged.{good}
 use Rattle.meaning.specs.Layout.{entry_at}
 use Rattle.meaning.specs.Image.{Part, next_of, image_of, index_of, Accepted}
 use Rattle.meaning.specs.ImageFits.{EntryFits, BlocksFit, joined}
-use Rattle.meaning.specs.BlockLaws.{blocks_good}
-use Rattle.meaning.specs.AcceptLaws.{image_good}
-use Rattle.meaning.specs.TermLaws.{TermAt, term_at}
-use Rattle.meaning.specs.IndexLaws.{docs_small, bytes_small, list_rises}
+use Rattle.meaning.proofs.BlockLaws.{blocks_good}
+use Rattle.meaning.proofs.AcceptLaws.{image_good}
+use Rattle.meaning.specs.TermLaws.{TermAt}
+use Rattle.meaning.proofs.TermLaws.{term_at}
+use Rattle.meaning.proofs.IndexLaws.{docs_small, bytes_small, list_rises}
 use Rattle.cursor.specs.Left.{ahead_of, term_of}
 use Rattle.cursor.specs.Sound.{Ready}
 use Rattle.cursor.specs.Steps.{start_at}

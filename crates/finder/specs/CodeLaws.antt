@@ -10,9 +10,9 @@ use Rattle.meaning.specs.Sheet.{Query, sheet_of}
 use Rattle.meaning.specs.SheetFits.{Within}
 use Rattle.meaning.specs.SheetLaws.{sheet_good}
 use Rattle.meaning.specs.PlaceFits.{InRows}
-use Rattle.meaning.specs.RefusalLaws.{image_fault, sheet_place}
+use Rattle.meaning.proofs.RefusalLaws.{image_fault, sheet_place}
 use Rattle.meaning.specs.Call.{needed, judged, call}
-use Rattle.meaning.specs.CallLaws.{refused_same, done_exactly}
+use Rattle.meaning.proofs.CallLaws.{refused_same, done_exactly}
 use Rattle.sheet.specs.QueryLaws.{needed_bound}
 use Rattle.finder.specs.Code.{code_of, Exported}
 

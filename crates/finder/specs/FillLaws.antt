@@ -8,7 +8,7 @@ use Rattle.meaning.specs.Image.{Index, index_of}
 use Rattle.meaning.specs.Sheet.{Query}
 use Rattle.meaning.specs.Answer.{answer}
 use Rattle.meaning.specs.Call.{answers, needed}
-use Rattle.meaning.specs.CallLaws.{answers_length}
+use Rattle.meaning.proofs.CallLaws.{answers_length}
 use Rattle.sheet.specs.declared.Record.{Record}
 use Rattle.sheet.specs.Record.{Readable, IsRecord, record_of, query_from}
 use Rattle.sheet.specs.QueryLaws.{needed_next, needed_most}

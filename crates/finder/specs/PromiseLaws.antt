@@ -9,12 +9,12 @@ use Rattle.meaning.specs.JudgedLaws.{bind_good, need_good, good_same}
 use Rattle.meaning.specs.Image.{Index, image_of, index_of, Accepted}
 use Rattle.meaning.specs.Sheet.{Query, sheet_of}
 use Rattle.meaning.specs.Call.{answers, needed, judged, says, Called}
-use Rattle.meaning.specs.IndexLaws.{index_is}
-use Rattle.meaning.specs.AcceptLaws.{image_good}
+use Rattle.meaning.proofs.IndexLaws.{index_is}
+use Rattle.meaning.proofs.AcceptLaws.{image_good}
 use Rattle.meaning.specs.SheetLaws.{sheet_good}
-use Rattle.meaning.specs.CallLaws.{refused_same, refused_stays, done_is}
+use Rattle.meaning.proofs.CallLaws.{refused_same, refused_stays, done_is}
 use Rattle.meaning.specs.CallFits.{CallFits}
-use Rattle.meaning.specs.FaultLaws.{image_first}
+use Rattle.meaning.proofs.FaultLaws.{image_first}
 use Rattle.meaning.specs.Promise.{Promise}
 use Rattle.sheet.specs.Verdict.{needed_of, roomed}
 use Rattle.sheet.specs.QueryLaws.{needed_good}

@@ -13,7 +13,7 @@ use Rattle.meaning.specs.Judged.{Judged, good, bad, ◌>>=◌}
 use Rattle.meaning.specs.JudgedLaws.{bind_good, need_good, good_same}
 use Rattle.meaning.specs.Layout.{head_at, size_of}
 use Rattle.meaning.specs.Image.{Posting, Part, block_of, and_then, next_of, largest_of, postings_at, block_at, blocks_at}
-use Rattle.meaning.specs.ImageLaws.{largest_append, blocks_fuel}
+use Rattle.meaning.proofs.ImageLaws.{largest_append, blocks_fuel}
 use Rattle.image.specs.Answers.{keep, Taken, taken_of, Ended, ended_of}
 use Rattle.image.specs.KeepLaws.{keep_same, keep_then, keep_good}
 use Rattle.image.specs.BlockLaws.{postings_count}

@@ -12,7 +12,7 @@ use Rattle.lists.specs.Tests.{by_test}
 use Rattle.meaning.specs.Image.{index_of}
 use Rattle.meaning.specs.Score as sc
 use Rattle.meaning.specs.Cost.{Tally, no_mention}
-use Rattle.meaning.specs.PruneLaws.{above_next}
+use Rattle.meaning.proofs.PruneLaws.{above_next}
 use Rattle.runs.specs.declared.Turn.TheVariants.{Finished, Stopped, Entered}
 use Rattle.runs.specs.Run.{Run, run_from}
 use Rattle.runs.specs.RunLaws.{run_stop, run_enter, run_on, run_skips, run_end}

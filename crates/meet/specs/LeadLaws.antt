@@ -9,7 +9,7 @@ use Rattle.std.proofs.lemmas.Bool.{eqb-false}
 use Rattle.lists.specs.Tests.{by_test}
 use Rattle.lists.specs.Each.{Each, each_at, each_from}
 use Rattle.meaning.specs.Image.{index_of}
-use Rattle.meaning.specs.ImageLaws.{blocks_rise}
+use Rattle.meaning.proofs.ImageLaws.{blocks_rise}
 use Rattle.meaning.specs.Score as sc
 use Rattle.cursor.specs.Left.{left_of, block_end}
 use Rattle.cursor.specs.Sound.{Sound}

@@ -9,7 +9,8 @@ use Rattle.mentions.specs.declared.Tally.{Tally}
 use Rattle.mentions.specs.Mentions.{none}
 use Rattle.visit.specs.Stand.{Stands, Goes, Next}
 use Rattle.visit.specs.Key.{sound_most}
-use Rattle.visit.specs.Postings.{goes_by, Midway, midway_sound, in_mentions, midway_here, posting_scores, posting_goes, posting_rises, midway_on}
+use Rattle.visit.specs.Postings.{goes_by, Midway, midway_sound, in_mentions, posting_scores, posting_goes, posting_rises, midway_on}
+use Rattle.visit.proofs.Postings.{midway_here}
 
 -- the walk around a mention: what it is to find, and the array that the mention stands in
 pub record Frame : Type 0 where

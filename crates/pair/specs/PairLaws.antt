@@ -8,7 +8,8 @@ use Rattle.mentions.specs.declared.Tally.{Tally}
 use Rattle.mentions.specs.Mentions.{none}
 use Rattle.visit.specs.Stand.{Next}
 use Rattle.visit.specs.Key.{key_of, sound_most}
-use Rattle.visit.specs.Postings.{goes_by, Midway, midway_least, midway_sound, in_mentions, midway_here}
+use Rattle.visit.specs.Postings.{goes_by, Midway, midway_least, midway_sound, in_mentions}
+use Rattle.visit.proofs.Postings.{midway_here}
 use Rattle.pair.specs.Alone.{Frame}
 use Rattle.ahead.specs.declared.Spot.{Spot}
 use Rattle.ahead.specs.Side.{seated}

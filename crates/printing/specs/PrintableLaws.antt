@@ -11,7 +11,7 @@ use Rattle.meaning.specs.Asked.{asked}
 use Rattle.meaning.specs.Answer.{place_of, answer, found_in}
 use Rattle.meaning.specs.AnswerLaws.{answer_found}
 use Rattle.meaning.specs.Call.{needed, call}
-use Rattle.meaning.specs.CallLaws.{stretch_at, done_exactly, length_stays}
+use Rattle.meaning.proofs.CallLaws.{stretch_at, done_exactly, length_stays}
 use Rattle.sheet.specs.Record.{query_from}
 use Rattle.sheet.specs.QueryLaws.{query_is, query_here}
 use Rattle.printing.specs.Text.{query_lines, sheet_lines}

@@ -2,12 +2,12 @@
 use Rattle.std.specs.Prelude.{◌≡◌, refl, Bool, List, ℕ, ◌≤◌, length, take, replicate}
 use Rattle.std.proofs.Common.{arith}
 use Rattle.meaning.specs.Judged.{Judged, good, bad}
-use Rattle.meaning.specs.AcceptLaws.{fit_image}
+use Rattle.meaning.proofs.AcceptLaws.{fit_image}
 use Rattle.meaning.specs.SheetLaws.{fit_sheet}
 use Rattle.meaning.specs.Sheet.{sheet_of}
 use Rattle.meaning.specs.Call.{call}
 use Rattle.meaning.specs.CallFits.{CallFits}
-use Rattle.meaning.specs.CallLaws.{done_exactly}
+use Rattle.meaning.proofs.CallLaws.{done_exactly}
 use Rattle.printing.specs.declared.Decision.{Decision}
 use Rattle.printing.specs.declared.Decision.TheVariants.{NoFile, TooLarge, OddSheet, Go}
 use Rattle.printing.specs.Text.{refused_line, sheet_lines}

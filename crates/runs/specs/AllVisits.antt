@@ -6,7 +6,7 @@ use Rattle.meaning.specs.declared.Mode.TheVariants.{All}
 use Rattle.meaning.specs.Score.{Mention, score, holders, matches_in}
 use Rattle.meaning.specs.Asked.{Asked, matches}
 use Rattle.meaning.specs.Cost.{Tally, cost_in, cost}
-use Rattle.meaning.specs.TableLaws.{ranked_unmatched, enter, keep_low}
+use Rattle.meaning.proofs.TableLaws.{ranked_unmatched, enter, keep_low}
 use Rattle.meaning.specs.WalkLaws.{Fit}
 use Rattle.runs.specs.Reached.{Visits}
 

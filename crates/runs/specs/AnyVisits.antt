@@ -11,9 +11,11 @@ use Rattle.meaning.specs.Rank.{insert, rows_at, bar}
 use Rattle.meaning.specs.Cost.{Tally, ordered, P, aside, visit_at, cost_in, cost}
 use Rattle.meaning.specs.OrderedLaws.{ordered_length}
 use Rattle.meaning.specs.AsideLaws.{aside_le, aside_low}
-use Rattle.meaning.specs.PruneLaws.{visit_some, unvisited}
-use Rattle.meaning.specs.VisitLaws.{BySome, plain_cost_ordered}
-use Rattle.meaning.specs.WalkLaws.{Fit, visit_keeps, visit_enters}
+use Rattle.meaning.proofs.PruneLaws.{visit_some, unvisited}
+use Rattle.meaning.specs.VisitLaws.{BySome}
+use Rattle.meaning.proofs.VisitLaws.{plain_cost_ordered}
+use Rattle.meaning.specs.WalkLaws.{Fit}
+use Rattle.meaning.proofs.WalkLaws.{visit_keeps, visit_enters}
 use Rattle.lists.specs.Tests.{by_zero}
 use Rattle.runs.specs.Reached.{Visits}
 

@@ -10,7 +10,7 @@ use Rattle.meaning.specs.Rank.{insert, rows_at, kth, bar}
 use Rattle.meaning.specs.Cost.{Tally, cost}
 use Rattle.meaning.specs.Place.{spent, stops}
 use Rattle.meaning.specs.Answer.{cost_at}
-use Rattle.meaning.specs.TableLaws.{bar_table}
+use Rattle.meaning.proofs.TableLaws.{bar_table}
 use Rattle.meaning.specs.PlaceLaws.{free_goes, fits_goes, dear_stops}
 use Rattle.runs.specs.declared.Turn.{Turn}
 use Rattle.runs.specs.declared.Turn.TheVariants.{Finished, Stopped, Entered}

@@ -34,7 +34,8 @@ use Rattle.mentions.specs.Mentions.{none, meant, Weighed, by_ceiling, Sums, Risi
 use Rattle.mentions.specs.MeantLaws.{order_front, by_ceiling_meant, by_ceiling_each, by_ceiling_length, sums_meant, aside_meant}
 use Rattle.visit.specs.Stand.{Stands, next_at, doc_of}
 use Rattle.visit.specs.StandLaws.{fair_ceiling}
-use Rattle.visit.specs.NextLaws.{doc_none, doc_some, next_doc}
+use Rattle.visit.specs.NextLaws.{doc_none, doc_some}
+use Rattle.visit.proofs.NextLaws.{next_doc}
 use Rattle.visit.specs.Walk.{meant_of, Starts, Leaves, run_of, run_by}
 use Rattle.visit.specs.declared.Visit.{Visit}
 use Rattle.search.specs.Serve.{Served, FoundBy, mode_for}

@@ -13,11 +13,12 @@ use Rattle.meaning.specs.Rank.{kth, bar}
 use Rattle.meaning.specs.Cost.{Tally, no_mention, ordered, P, visit_at}
 use Rattle.meaning.specs.Answer.{cost_at}
 use Rattle.meaning.specs.AsideLaws.{aside_up}
-use Rattle.meaning.specs.TableLaws.{bar_table, bar_up}
-use Rattle.meaning.specs.PruneLaws.{unvisited}
+use Rattle.meaning.proofs.TableLaws.{bar_table, bar_up}
+use Rattle.meaning.proofs.PruneLaws.{unvisited}
 use Rattle.meaning.specs.OrderedLaws.{ordered_length}
 use Rattle.meaning.specs.PlaceLaws.{spent_most}
-use Rattle.meaning.specs.VisitLaws.{BySome, cost_le}
+use Rattle.meaning.specs.VisitLaws.{BySome}
+use Rattle.meaning.proofs.VisitLaws.{cost_le}
 use Rattle.meaning.specs.WalkLaws.{Fit}
 use Rattle.runs.specs.Run.{Run, run_from}
 use Rattle.runs.specs.RunLaws.{run_skips, run_later}
@@ -25,7 +26,8 @@ use Rattle.runs.specs.Reached.{Reached, Ended, run_keeps}
 use Rattle.runs.specs.AnyVisits.{aside_in, aside_in_le, any_visits}
 use Rattle.mentions.specs.declared.Mention.{Mention}
 use Rattle.visit.specs.Stand.{doc_of, next_at, Placed}
-use Rattle.visit.specs.NextLaws.{next_none, next_under, NextDoc, next_doc}
+use Rattle.visit.specs.NextLaws.{next_none, next_under, NextDoc}
+use Rattle.visit.proofs.NextLaws.{next_doc}
 use Rattle.visit.specs.StandLaws.{stands_past, stands_later}
 use Rattle.visit.specs.PlacedLaws.{placed_meant, placed_rises}
 use Rattle.visit.specs.Walk.{meant_of, Starts, run_by}

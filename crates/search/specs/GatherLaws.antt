@@ -6,8 +6,8 @@ use Rattle.lists.specs.Tests.{by_order}
 use Rattle.meaning.specs.Judged.{good}
 use Rattle.meaning.specs.Image.{image_of, index_of, Accepted}
 use Rattle.meaning.specs.Score.{mention_of}
-use Rattle.meaning.specs.ImageLaws.{impact_top}
-use Rattle.meaning.specs.IndexLaws.{index_is, list_rises, largest_true}
+use Rattle.meaning.proofs.ImageLaws.{impact_top}
+use Rattle.meaning.proofs.IndexLaws.{index_is, list_rises, largest_true}
 use Rattle.cursor.specs.declared.Cursor.{Cursor}
 use Rattle.cursor.specs.Left.{term_of, left_of}
 use Rattle.cursor.specs.Sound.{Sound}

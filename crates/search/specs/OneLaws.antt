@@ -12,7 +12,7 @@ use Rattle.meaning.specs.Rank.{ranked, kth, bar}
 use Rattle.meaning.specs.Cost.{cost_in, cost}
 use Rattle.meaning.specs.Answer.{cost_at, place_of}
 use Rattle.meaning.specs.ScoreLaws.{holders_le}
-use Rattle.meaning.specs.TableLaws.{ranked_same}
+use Rattle.meaning.proofs.TableLaws.{ranked_same}
 use Rattle.search.specs.declared.Found.{Found}
 use Rattle.search.specs.Serve.{FoundBy}
 

@@ -5,7 +5,7 @@ use Rattle.meaning.specs.Image.{index_of}
 use Rattle.meaning.specs.Score.{mentions}
 use Rattle.meaning.specs.Asked.{Asked, asked}
 use Rattle.meaning.specs.Answer.{filled, answer_of, answer}
-use Rattle.meaning.specs.IndexLaws.{index_is, docs_small}
+use Rattle.meaning.proofs.IndexLaws.{index_is, docs_small}
 use Rattle.ranking.specs.Rows.{rows_of}
 use Rattle.runs.specs.Found.{found_answer}
 use Rattle.sheet.specs.declared.Record.{Record}

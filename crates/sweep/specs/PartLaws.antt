@@ -9,7 +9,8 @@ use Rattle.mentions.specs.declared.Tally.{Tally}
 use Rattle.mentions.specs.Mentions.{none}
 use Rattle.visit.specs.Stand.{Next, SoundFrom}
 use Rattle.visit.specs.Key.{key_of}
-use Rattle.visit.specs.Postings.{goes_by, Midway, midway_sound, some_mention, in_mentions, midway_here}
+use Rattle.visit.specs.Postings.{goes_by, Midway, midway_sound, some_mention, in_mentions}
+use Rattle.visit.proofs.Postings.{midway_here}
 use Rattle.ahead.specs.declared.Spot.{Spot}
 use Rattle.ahead.specs.Side.{seated, Side}
 use Rattle.ahead.specs.SideLaws.{side_few, side_on, side_room, side_rises}

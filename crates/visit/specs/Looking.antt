@@ -6,7 +6,7 @@ use Rattle.std.proofs.lemmas.List.{set-get_or}
 use Rattle.std.specs.Int.{w32}
 use Rattle.meaning.specs.Score as sc
 use Rattle.meaning.specs.Cost.{no_mention, look_ups, visit_at}
-use Rattle.meaning.specs.PruneLaws.{look_end, look_drop, look_on, visited}
+use Rattle.meaning.proofs.PruneLaws.{look_end, look_drop, look_on, visited}
 use Rattle.mentions.specs.declared.Mention.{Mention}
 use Rattle.mentions.specs.declared.Tally.{Tally}
 use Rattle.mentions.specs.Mentions.{none, meant}

@@ -1,11 +1,10 @@
 -- Laws of the next document that some mentions hold: nothing is held before it, and it stays the next one until it comes.
-use Rattle.std.specs.Prelude.{◌≡◌, ℕ, zero, suc, ◌-◌, ◌≤◌, ◌<◌, eqb, length, get_or}
+use Rattle.std.specs.Prelude.{◌≡◌, ℕ, zero, suc, ◌-◌, ◌≤◌, ◌<◌, length, get_or}
 use Rattle.std.proofs.Math.Path.{refl, ap}
-use Rattle.std.proofs.Common.{sym, ◌∙◌, eq-eqb, ne_eqb, eqb-true}
+use Rattle.std.proofs.Common.{sym, ◌∙◌, eq-eqb, ne_eqb}
 use mathlib.Core.List.{List, [], ◌∷◌}
 use native.Mathlib.Omega.{arith}
-use Rattle.std.proofs.lemmas.Bool.{eqb-false}
-use Rattle.lists.specs.Tests.{by_test, by_order}
+use Rattle.lists.specs.Tests.{by_order}
 use Rattle.meaning.specs.Image.{Posting}
 use Rattle.meaning.specs.ImageLaws.{Rising}
 use Rattle.meaning.specs.Score.{Mention, impact_at, holders}
@@ -75,7 +74,7 @@ rises_rest N m os r x h = r (suc x) (omega arith)
 
 module _ (N : ℕ) (few : N < 16777216) where
   -- up to the next document it stays the next
-  next_stays : (os : List Mention) → Rises N os → (d e : ℕ) → d ≤ e → e < next_at os d → next_at os e ≡ next_at os d
+  pub next_stays : (os : List Mention) → Rises N os → (d e : ℕ) → d ≤ e → e < next_at os d → next_at os e ≡ next_at os d
   unfolding next_at
   next_stays [] r d e h lt = refl
   next_stays (m ∷ os) r d e h lt =
@@ -119,17 +118,6 @@ module _ (N : ℕ) (few : N < 16777216) where
     pub before : D < past
     pub most : D ≤ N
     pub stays : past ≡ next_at os D
-
-  pub next_doc : (os : List Mention) → Rises N os → (d past : ℕ) → d ≤ N → past ≡ next_at os d → NextDoc os d past (doc_of N past)
-  next_doc os r d past h e =
-      let least = next_least os r d h in
-      let at : (D : ℕ) → doc_of N past ≡ D → d ≤ D → D < past → D ≤ N → NextDoc os d past (doc_of N past) =
-      λ D is later before most. rw is (record { later = later; before = before; most = most; stays = e ∙ sym (next_stays os r d D later (omega arith)) }) in
-      by_test (eqb past 4294967295)
-      (λ b. let done = eqb-true past 4294967295 b in at N (doc_none N past done) h (omega arith) (omega arith))
-      (λ b.
-      let ne = eqb-false past 4294967295 b in
-      at (past - 1) (doc_some N past ne) (omega arith) (omega arith) (omega (arith, next_most os r d (λ z. ne (omega arith)))))
 
 -- none of the mentions stands before it, a number that none stands before is at most it, and where there is none its number is 4294967295
 pub next_under : (os : List Mention) (d x : ℕ) → x < length os → next_at os d ≤ past_of (not_below d (get_or os x no_mention).postings)

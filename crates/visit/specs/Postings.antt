@@ -1,9 +1,8 @@
 -- The loop over postings: each is scored for its document, and those of a document come one after the other, by mention. A document whose sum
 -- stays at the bar less P(j) is dropped when the next one comes.
-use Rattle.std.specs.Prelude.{◌≡◌, ◌⊎◌, List, ℕ, suc, ◌+◌, ◌*◌, ◌-◌, ◌≤◌, ◌<◌, eqb, length, get_or, set, drop}
-use Rattle.std.proofs.Common.{sym, ◌∙◌, inl, inr, ⊎_elim, arith, length-drop, drop_of_length-le, get_or-drop, eqb-true}
-use Rattle.std.proofs.lemmas.Bool.{eqb-false}
-use Rattle.lists.specs.Tests.{by_test, by_order, by_zero}
+use Rattle.std.specs.Prelude.{◌≡◌, ◌⊎◌, List, ℕ, suc, ◌+◌, ◌*◌, ◌-◌, ◌≤◌, ◌<◌, length, get_or, set, drop}
+use Rattle.std.proofs.Common.{sym, ◌∙◌, inl, inr, ⊎_elim, arith, length-drop, drop_of_length-le, get_or-drop}
+use Rattle.lists.specs.Tests.{by_order}
 use Rattle.meaning.specs.Score as sc
 use Rattle.meaning.specs.Cost.{no_mention}
 use Rattle.runs.specs.Run.{Run}
@@ -15,9 +14,9 @@ use Rattle.visit.specs.Stand.{past_of, next_at, Stands, Goes, Placed, Next, Soun
 use Rattle.visit.specs.Walk.{meant_of}
 use Rattle.visit.specs.NextLaws.{next_under, next_over}
 use Rattle.visit.specs.StandLaws.{stands_past, stands_least}
-use Rattle.visit.specs.Scoring.{Site, Scoring, scoring_first, scoring_skip, scoring_on, turned_hit, turn_scores, turn_goes, scoring_meant, all_scored}
-use Rattle.visit.specs.Looking.{Looking, looking_first, Visited, visited_all, visited_dropped}
-use Rattle.visit.specs.Walking.{Walking, Visiting, visiting, going_on, going_up}
+use Rattle.visit.specs.Scoring.{Site, Scoring, scoring_skip, scoring_on, turned_hit, turn_scores, turn_goes, scoring_meant, all_scored}
+use Rattle.visit.specs.Looking.{Looking, looking_first, Visited}
+use Rattle.visit.specs.Walking.{Visiting}
 
 -- whether postings are taken on, as it is tested: the slack is the bar less P(j), and the limit the budget less q
 pub goes_by : (t : Tally) (low q : ℕ) {bar slack limit budget here past : ℕ} → bar ≡ slack + low → budget ≡ limit + q →
@@ -33,13 +32,6 @@ pub record Midway (s : List ℕ) (os : List sc.Mention) (pre : List ℕ) (bar j 
   pub scoring : Scoring s os pre j q past before ms t rank
   pub fits : before + q ≤ budget
   pub on : from ≤ past
-
-pub midway_first : {s : List ℕ} {os : List sc.Mention} {pre : List ℕ} {bar j q budget : ℕ} {run : Run} {from : ℕ} {ms : List Mention} {past count : ℕ} →
-    Walking s os pre bar j q budget run ms past count → (past ≡ 4294967295 → ⊥) → count + q ≤ budget → from ≤ past →
-    Midway s os pre bar j q budget run from ms past (record { sum = 0; count = count })
-midway_first {j = j} {count = count} w ne fits on =
-    let v = visiting w ne in
-    record { before = count; rank = j; visiting = v.0; scoring = scoring_first v.0.site w.long v.1; fits = fits; on = on }
 
 module _ {s : List ℕ} {os : List sc.Mention} {pre : List ℕ} {bar j q budget : ℕ} {run : Run} {from : ℕ} {ms : List Mention} {past : ℕ} {t : Tally}
     (x : Midway s os pre bar j q budget run from ms past t) where
@@ -121,28 +113,6 @@ module _ {s : List ℕ} {os : List sc.Mention} {pre : List ℕ} {bar j q budget 
       pub visited_there : {ns : List Mention} {u : Tally} → Visited s (meant_of s q ms) bar j q past (t.count - sc.holders (drop j (meant_of s q ms)) (past - 1)) ns u →
           Visited s os bar j q past x.before ns u
       visited_there v = rw (scoring_meant all_done, before_is) at v
-
-      -- a document whose sum stays low is dropped, and the next one is visited
-      pub midway_next : t.sum + get_or pre j 0 ≤ bar → t.count + q ≤ budget → (here ≡ 4294967295 → ⊥) →
-          Midway s os pre bar j q budget run from ms here (record { sum = 0; count = t.count })
-      midway_next low fits more =
-          let l : Looking s os pre bar j q past x.before ms t j = looking_first all_done (omega arith) in
-          let u = by_zero j (λ z. visited_all l (omega arith)) (λ some. visited_dropped l some low) in
-          let w = going_on x.visiting u x.fits next_is (omega arith) in
-          midway_first w more fits (omega (arith, x.on, going_up x.visiting u x.fits next_is more))
-
-    -- the document of the next posting is visited, with the tally as it is carried there
-    pub midway_here : (here ≡ past) ⊎ ((t.sum + get_or pre j 0 ≤ bar) × (t.count + q ≤ budget) × (here ≡ 4294967295 → ⊥)) →
-        {u : Tally} → (here ≡ past → u ≡ t) × ((here ≡ past → ⊥) → u ≡ record { sum = 0; count = t.count }) →
-        Midway s os pre bar j q budget run from ms here u
-    midway_here goes {u} is =
-        by_test (eqb here past)
-        (λ b.
-        let e = eqb-true here past b in
-        rw (is.0 e, e) x)
-        (λ b.
-        let ne = eqb-false here past b in
-        rw (is.1 ne) (⊎_elim (λ e. absurd (ne e)) (λ g. midway_next ne g.0 g.1 g.2) goes))
 
     -- the posting's mention is scored and goes on
     module _ (e : here ≡ past) where

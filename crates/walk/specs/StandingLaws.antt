@@ -13,7 +13,8 @@ use Rattle.visit.specs.Walk.{meant_of, run_by}
 use Rattle.visit.specs.Key.{key_of, key_past}
 use Rattle.visit.specs.PlacedLaws.{meant_is}
 use Rattle.visit.specs.Walking.{Walking}
-use Rattle.visit.specs.Postings.{midway_first, some_mention}
+use Rattle.visit.specs.Postings.{some_mention}
+use Rattle.visit.proofs.Postings.{midway_first}
 use Rattle.pair.specs.Alone.{Frame, AloneAt, AloneTo, alone_next}
 use Rattle.sweep.specs.KeyLaws.{keyed_aside}
 use Rattle.sweep.specs.Parts.{Parts, PartsAt}

@@ -21,7 +21,8 @@ use Rattle.visit.specs.Stand.{doc_of, SoundFrom}
 use Rattle.visit.specs.Walk.{meant_of, run_by}
 use Rattle.visit.specs.Scoring.{costs_fit, scored_hit, scored_miss}
 use Rattle.visit.specs.Looking.{Looking, Found, Visited, in_seventeen, in_sixteen, test_fits, look_seeks, look_scores, found_sought, found_here, looking_on, visited_all, visited_dropped}
-use Rattle.visit.specs.Walking.{Walking, Ends, visiting, finished, stopped, entered, going_falls, going_on}
+use Rattle.visit.specs.Walking.{Walking, Ends, finished, stopped, entered}
+use Rattle.visit.proofs.Walking.{visiting, going_falls, going_on}
 use Rattle.visit.specs.Postings.{next_is, looking_starts, visited_there}
 use Rattle.visit.specs.declared.Visit.{Visit}
 use Rattle.sweep.specs.KeyLaws.{blank_rows}

@@ -9,7 +9,7 @@ use Rattle.meaning.specs.Sheet.{within, pairs_at, query_at, queries_at, sheet_of
 use Rattle.meaning.specs.SheetFits.{Within}
 use Rattle.meaning.specs.PlaceFits.{InRows}
 use Rattle.meaning.specs.SheetLaws.{within_true}
-use Rattle.meaning.specs.BlockLaws.{blocks_some}
+use Rattle.meaning.proofs.BlockLaws.{blocks_some}
 
 -- a fault of term t: 5, 6 or 7 at t
 abbrev OfTerm : ℕ → ℕ → ℕ → Type 0

@@ -14,13 +14,13 @@ use Rattle.meaning.specs.Cost.{visits, cost_in, cost}
 use Rattle.meaning.specs.Place.{spent, stops, place}
 use Rattle.meaning.specs.Answer.{cost_at, place_of, filled, answer_of, place_in, found_in, scored_in, row_in}
 use Rattle.meaning.specs.Stop.{Visited, due_at, StopsAt}
-use Rattle.meaning.specs.InsertLaws.{insert_each}
-use Rattle.meaning.specs.TableLaws.{ranked_budget, ranked_unmatched, enter}
-use Rattle.meaning.specs.VisitLaws.{visits_some, visits_free, cost_le}
+use Rattle.meaning.proofs.InsertLaws.{insert_each}
+use Rattle.meaning.proofs.TableLaws.{ranked_budget, ranked_unmatched, enter}
+use Rattle.meaning.proofs.VisitLaws.{visits_some, visits_free, cost_le}
 use Rattle.meaning.specs.PlaceLaws.{place_later, place_le, place_at, place_end, place_goes, place_found, free_goes, fits_goes, dear_stops, stops_dear, spent_within}
-use Rattle.meaning.specs.PostingsLaws.{within_postings}
+use Rattle.meaning.proofs.PostingsLaws.{within_postings}
 use Rattle.meaning.specs.AnswerLaws.{answer_place, answer_found, answer_scored, answer_row}
-use Rattle.meaning.specs.BestLaws.{answer_best}
+use Rattle.meaning.proofs.BestLaws.{answer_best}
 
 module _ (a : Asked) where
   -- the number of mentions

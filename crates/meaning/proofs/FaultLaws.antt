@@ -9,8 +9,8 @@ use Rattle.meaning.specs.Layout.{header_of}
 use Rattle.meaning.specs.Image.{Index, image_of}
 use Rattle.meaning.specs.Sheet.{Query, sheet_of}
 use Rattle.meaning.specs.Call.{queries_in, needed, judged}
-use Rattle.meaning.specs.IndexLaws.{index_terms}
-use Rattle.meaning.specs.RefusalLaws.{image_fault, sheet_fault}
+use Rattle.meaning.proofs.IndexLaws.{index_terms}
+use Rattle.meaning.proofs.RefusalLaws.{image_fault, sheet_fault}
 use Rattle.meaning.specs.PlaceFits.{PlaceFits}
 
 module _ (image sheet row : List ℕ) where

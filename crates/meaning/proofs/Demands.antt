@@ -1,6 +1,6 @@
 -- The three demands of the letter over the whole call, a theorem for each sentence. A call is an image, a sheet and an answer row handed over,
 -- and an outcome and the row as it is left, bound by `Promise`. Of a call that is done, `asked_by` is what query i asks and `got_by` the numbers it got.
-use Rattle.std.specs.Prelude.{◌≡◌, refl, ◌↔◌, List, ℕ, ◌≤◌, ◌<◌, length, get_or}
+use Rattle.std.specs.Prelude.{◌≡◌, ◌↔◌, List, ℕ, ◌≤◌, ◌<◌, length, get_or}
 use Rattle.std.proofs.Common.{sym, ◌∙◌}
 use Rattle.std.proofs.Math.Path.{ap}
 use Rattle.meaning.specs.declared.Outcome.{Outcome}
@@ -20,12 +20,12 @@ use Rattle.meaning.specs.Promise.{Promise, asked_by, got_by, budget_at, SameBut}
 use Rattle.meaning.specs.PlaceFits.{PlaceFits}
 use Rattle.meaning.specs.CallFits.{CallFits}
 use Rattle.meaning.specs.AnswerLaws.{answer_place, answer_scored}
-use Rattle.meaning.specs.BestLaws.{answer_best, finished_best, finished_ranked}
-use Rattle.meaning.specs.BudgetLaws.{stopped_where, finished_where, within_budget, within_lists, place_grows, row_before, same_score, finished_repeats}
-use Rattle.meaning.specs.CallLaws.{refused_same, refused_stays, done_exactly}
-use Rattle.meaning.specs.FaultLaws.{refused_at}
-use Rattle.meaning.specs.OnlyLaws.{says_same, call_only}
-use Rattle.meaning.specs.DoneLaws.{got_answer, asks_some, asks_budget, got_budget, there, asks_moved}
+use Rattle.meaning.proofs.BestLaws.{answer_best, finished_best, finished_ranked}
+use Rattle.meaning.proofs.BudgetLaws.{stopped_where, finished_where, within_budget, within_lists, place_grows, row_before, same_score, finished_repeats}
+use Rattle.meaning.proofs.CallLaws.{refused_same, refused_stays, done_exactly}
+use Rattle.meaning.proofs.FaultLaws.{refused_at}
+use Rattle.meaning.proofs.OnlyLaws.{says_same, call_only}
+use Rattle.meaning.proofs.DoneLaws.{got_answer, asks_some, asks_budget, got_budget, there, asks_moved}
 
 -- DEMAND 1. "Every index and every sheet of queries that can be handed over is taken: nothing outside them is read, the call always ends, it
 -- judges both itself." That nothing outside is read and that it ends is the language's: a call that did otherwise could not be proved. The rest

@@ -1,7 +1,7 @@
 -- A call that is done, query by query: the numbers that a query got are the written answer to what it asks, and with another budget on the
 -- sheet they are the answer to the same with that budget.
 use Rattle.std.specs.Prelude.{◌≡◌, refl, ℕ, ◌+◌, ◌<◌, length, get_or, take, set}
-use Rattle.std.proofs.Common.{sym, ◌∙◌, arith, length-set, get_or-set_same}
+use Rattle.std.proofs.Common.{sym, ◌∙◌, length-set, get_or-set_same}
 use Rattle.std.proofs.Math.Path.{ap, subst}
 use mathlib.Core.List.{List, []}
 use Rattle.meaning.specs.declared.Outcome.TheVariants.{Done}
@@ -16,11 +16,11 @@ use Rattle.meaning.specs.Call.{queries_in, says}
 use Rattle.meaning.specs.Promise.{Promise, asked_by, got_by, budget_at, SameBut}
 use Rattle.meaning.specs.SheetFits.{QueryFits, SheetFits}
 use Rattle.meaning.specs.CallFits.{CallFits}
-use Rattle.meaning.specs.AcceptLaws.{fit_image}
+use Rattle.meaning.proofs.AcceptLaws.{fit_image}
 use Rattle.meaning.specs.SheetLaws.{fit_sheet, query_at_lem}
-use Rattle.meaning.specs.IndexLaws.{index_is, index_terms}
-use Rattle.meaning.specs.MentionLaws.{mentions_fit}
-use Rattle.meaning.specs.CallLaws.{done_exactly, stretch_at}
+use Rattle.meaning.proofs.IndexLaws.{index_is, index_terms}
+use Rattle.meaning.proofs.MentionLaws.{mentions_fit}
+use Rattle.meaning.proofs.CallLaws.{done_exactly, stretch_at}
 use Rattle.meaning.specs.ResheetLaws.{sheet_moves}
 
 module _ (image sheet row : List ℕ) (count : ℕ) (after : List ℕ) (promise : Promise image sheet row (Done count) after) where

@@ -1,5 +1,5 @@
 -- What a call says and what it leaves in the answer row: done exactly when no row of the table holds, each query's stretch after the one before.
-use Rattle.std.specs.Prelude.{◌≡◌, refl, ◌↔◌, ℕ, zero, suc, ◌+◌, ◌*◌, ◌≤◌, ◌<◌, leb, get_or, take, drop}
+use Rattle.std.specs.Prelude.{◌≡◌, refl, ◌↔◌, ℕ, zero, suc, ◌+◌, ◌*◌, ◌<◌, leb, get_or, take, drop}
 use Rattle.std.proofs.Math.Path.{sym}
 use Rattle.std.proofs.Common.{ap, ◌∙◌, arith, length-append, length-drop, take_at, drop_at}
 use mathlib.Core.List.{List, [], ◌∷◌, ◌++◌, append_assoc}
@@ -14,7 +14,7 @@ use Rattle.meaning.specs.Asked.{asked}
 use Rattle.meaning.specs.Answer.{answer}
 use Rattle.meaning.specs.Call.{answers, needed, stretch, judged, Called, ending, call}
 use Rattle.meaning.specs.CallFits.{CallFits}
-use Rattle.meaning.specs.AcceptLaws.{image_good, fit_image}
+use Rattle.meaning.proofs.AcceptLaws.{image_good, fit_image}
 use Rattle.meaning.specs.SheetLaws.{sheet_good, fit_sheet}
 use Rattle.meaning.specs.AnswerLaws.{answer_length}
 

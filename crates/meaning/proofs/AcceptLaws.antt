@@ -9,7 +9,7 @@ use Rattle.meaning.specs.Bits.{bits_at}
 use Rattle.meaning.specs.Layout.{header_of, Entry, entry_at}
 use Rattle.meaning.specs.Image.{Term, Terms, Index, list_of, largest_of, blocks_at, entry_fits, terms_at, image_of}
 use Rattle.meaning.specs.ImageFits.{EntryFits, joined, ListFits, TermsFit, ImageFits}
-use Rattle.meaning.specs.BlockLaws.{blocks_good, fit_blocks}
+use Rattle.meaning.proofs.BlockLaws.{blocks_good, fit_blocks}
 
 entry_good : (N due : ℕ) (e : Entry) → entry_fits N due e ≡ true → EntryFits N due e
 entry_good N due e h = by_test (eqb e.count 0) none some

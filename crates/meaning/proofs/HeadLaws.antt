@@ -1,15 +1,16 @@
 -- What an accepted image says of a list is true: the number of its postings, and of each block the last document and the largest impact,
 -- so that a document's impact is at most that of the first block whose last document is not below it.
-use Rattle.std.specs.Prelude.{◌≡◌, refl, true, false, List, [], ◌∷◌, ◌++◌, ℕ, suc, ◌+◌, ◌-◌, ◌≤◌, ◌<◌, max, leb, eqb, length, get_or}
+use Rattle.std.specs.Prelude.{◌≡◌, refl, List, [], ◌∷◌, ◌++◌, ℕ, suc, ◌+◌, ◌-◌, ◌≤◌, ◌<◌, max, leb, eqb, length, get_or}
 use Rattle.std.proofs.Common.{sym, ap, ◌∙◌, arith, leb-true, leb-false, ne_eqb}
 use Rattle.lists.specs.Tests.{by_test}
 use Rattle.meaning.specs.Judged.{good}
 use Rattle.meaning.specs.Layout.{head_at}
 use Rattle.meaning.specs.Image.{Posting, Part, Term, Index, largest_of, largest_from, next_of, image_of}
 use Rattle.meaning.specs.ImageFits.{BlocksFit, joined, heads_of, ListFits}
-use Rattle.meaning.specs.AcceptLaws.{image_good}
-use Rattle.meaning.specs.ImageLaws.{Rising, postings_rise, blocks_rise, impact_top, largest_append}
-use Rattle.meaning.specs.TermLaws.{lists_due}
+use Rattle.meaning.proofs.AcceptLaws.{image_good}
+use Rattle.meaning.specs.ImageLaws.{Rising}
+use Rattle.meaning.proofs.ImageLaws.{postings_rise, blocks_rise, impact_top, largest_append}
+use Rattle.meaning.proofs.TermLaws.{lists_due}
 use Rattle.meaning.specs.IndexLaws.{list_at}
 use Rattle.meaning.specs.Score.{no_term, impact_at}
 

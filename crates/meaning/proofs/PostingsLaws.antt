@@ -9,7 +9,7 @@ use Rattle.meaning.specs.Rank.{bar}
 use Rattle.meaning.specs.Place.{spent}
 use Rattle.meaning.specs.Answer.{cost_at}
 use Rattle.meaning.specs.PlaceLaws.{spent_less}
-use Rattle.meaning.specs.VisitLaws.{cost_held}
+use Rattle.meaning.proofs.VisitLaws.{cost_held}
 
 spent_sum : (f g : ℕ → ℕ) (p : ℕ) → spent (λ d. f d + g d) p ≡ spent f p + spent g p
 unfolding spent

@@ -9,9 +9,9 @@ use Rattle.meaning.specs.Answer.{answer}
 use Rattle.meaning.specs.Call.{says, stretch, call}
 use Rattle.meaning.specs.Promise.{Promise}
 use Rattle.meaning.specs.CallFits.{CallFits}
-use Rattle.meaning.specs.AcceptLaws.{fit_image}
-use Rattle.meaning.specs.IndexLaws.{index_is}
-use Rattle.meaning.specs.CallLaws.{stretch_at}
+use Rattle.meaning.proofs.AcceptLaws.{fit_image}
+use Rattle.meaning.proofs.IndexLaws.{index_is}
+use Rattle.meaning.proofs.CallLaws.{stretch_at}
 
 -- "a definition that gives this paper's number and values for each of its cases": no two outcomes say the same
 pub says_same : (a b : Outcome) → says a ≡ says b → a ≡ b

@@ -11,9 +11,9 @@ use Rattle.meaning.specs.Asked.{Asked, matches}
 use Rattle.meaning.specs.Rank.{outranks, ranked, rows_at, row_of, no_row}
 use Rattle.meaning.specs.Answer.{place_of, answer_of, place_in, found_in, row_in}
 use Rattle.meaning.specs.Best.{matching, Best}
-use Rattle.meaning.specs.RankLaws.{sorted_at}
-use Rattle.meaning.specs.InsertLaws.{insert_length, insert_each, insert_has, insert_keeps}
-use Rattle.meaning.specs.TableLaws.{ranked_match, ranked_unmatched, ranked_under, ranked_sorted}
+use Rattle.meaning.proofs.RankLaws.{sorted_at}
+use Rattle.meaning.proofs.InsertLaws.{insert_length, insert_each, insert_has, insert_keeps}
+use Rattle.meaning.proofs.TableLaws.{ranked_match, ranked_unmatched, ranked_under, ranked_sorted}
 use Rattle.meaning.specs.AnswerLaws.{answer_place, answer_found, answer_row}
 
 module _ (a : Asked) where

@@ -1,0 +1,3 @@
+pub mod NextLaws
+pub mod Walking
+pub mod Postings
