@@ -1,5 +1,5 @@
 /* Neobyulhan's clip finder: ranked answers from an index image, each function proved to meet its contract.
-   Link target/staticlib/libfinder.a, which `rt staticlib finder` writes for x86-64. No other library is needed. */
+   Link target/staticlib/libfinder.a, which `.ci/archive` writes for x86-64. No other library is needed. */
 #ifndef CLIPFINDER_H
 #define CLIPFINDER_H
 

@@ -1,4 +1,4 @@
-//! Links `libfinder.a`, as `rt staticlib finder` writes it: from `target/staticlib` of the repository,
+//! Links `libfinder.a`, as `.ci/archive` writes it: from `target/staticlib` of the repository,
 //! or from the folder that the environment variable CLIPFINDER_LIB names.
 
 use std::env;
@@ -19,7 +19,7 @@ fn main() {
         println!("cargo::rustc-link-lib=static=finder");
     } else {
         println!(
-            "cargo::error=the finder's library is missing: no file {}. Build it with `rt staticlib finder`, \
+            "cargo::error=the finder's library is missing: no file {}. Build it with `.ci/archive`, \
              or name the folder that holds libfinder.a in the environment variable CLIPFINDER_LIB.",
             archive.display()
         );

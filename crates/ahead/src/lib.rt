@@ -1,5 +1,7 @@
 // The keys of a mention's next postings, read ahead into its part of a room: each posting is one number there, and reading ahead scores nothing.
 // Document 01: "All such postings are scored", in the order of their documents, which these keys tell.
+#![tactic(auto)]
+
 ghost use Rattle.std.specs.Prelude.{◌≡◌, ◌+◌, ◌-◌, ◌/◌, ◌≤◌, ◌<◌, length};
 ghost use Rattle.meaning.specs.Image.{index_of};
 ghost use Rattle.cursor.specs.Sound.{Sound};

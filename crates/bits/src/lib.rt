@@ -1,5 +1,7 @@
 // Fields of bits, out of a part of a byte row: "Fields are bit-packed, most significant bit first .. Bit 0 is the top bit of byte 0."
 // Eight bytes are taken as one number, and a field is what is left of it between two shifts.
+#![tactic(auto)]
+
 ghost use Rattle.std.specs.Prelude.{◌≡◌, ◌+◌, ◌*◌, ◌≤◌, ◌<◌, length};
 ghost use Rattle.meaning.specs.Bits.{bits_at};
 

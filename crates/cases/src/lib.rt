@@ -1,6 +1,9 @@
 // A case of the whole call, run and printed on one line: its name, what the call says ("either done with the count of numbers filled, or
 // refused with a number and a place"), and the answer row as it stands then.
+#![tactic(auto)]
+
 use meaning::Outcome;
+use std::io;
 
 // Document 01's lists A: 3 with 4, 5 with 2, 9 with 4; B: 5 with 9, 12 with 9. T = 2, N = 20. A stands at bit 192 (w = 2, gaps 3, 1, 3), B at bit
 // 192 + 44 + 3 * 10 = 266 (w = 3, gaps 5, 6) and ends at 266 + 44 + 2 * 11 = 332; 4 zero bits fill 42 bytes.
@@ -10,23 +13,29 @@ pub const A_AND_B: [u8; 42] = *b"\x10\x02\x00\x00\x14\x00\x00\x2a\
     \x04\x20\x40\x00\x00\x9c\x11\x02\xc1\x00\x8c\x24\x00\x00\x32\x84\xe0\x90";
 
 // A case whose row is lent by the program.
-pub fn call(name: &[u8], image: &[u8], sheet: &[u32], row: &mut [u32]) {
-    report::text(name);
+pub fn call(
+    rt: &impl Print,
+    name: &[u8],
+    image: &[u8],
+    sheet: &[u32],
+    row: &mut [u32],
+) -> io::Result<()> {
+    report::text(rt, name)?;
     let said = finder::answer(image, sheet, row);
     match said {
         Outcome::Done(count) => {
-            report::text(b": done");
-            report::count(count);
+            report::text(rt, b": done")?;
+            report::count(rt, count)?;
         }
-        Outcome::Refused(fault, place) => report::refused(fault, place),
+        Outcome::Refused(fault, place) => report::refused(rt, fault, place)?,
     }
-    report::text(b":");
-    report::numbers(row);
-    report::text(b"\n");
+    report::text(rt, b":")?;
+    report::numbers(rt, row)?;
+    report::text(rt, b"\n")
 }
 
 // A case with a row of eight numbers, each 99 before the call: more than one query of k = 1 or k = 2 fills.
-pub fn case(name: &[u8], image: &[u8], sheet: &[u32]) {
+pub fn case(rt: &impl Print, name: &[u8], image: &[u8], sheet: &[u32]) -> io::Result<()> {
     let mut row = [99u32; 8];
-    call(name, image, sheet, &mut row);
+    call(rt, name, image, sheet, &mut row)
 }

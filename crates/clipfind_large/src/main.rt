@@ -1,4 +1,8 @@
 // The printing program on an index.bin of 65,537 bytes, that of clipfind_full and one byte more, and P1's sheet. It prints `too large`.
-fn main() {
-    program::run();
+#![tactic(auto)]
+
+use std::io;
+
+fn main(rt: HostRuntime) -> io::Result<()> {
+    program::run(&rt)
 }

@@ -1,4 +1,8 @@
 // The printing program on image I and a sheet.bin of 9,221 bytes, which is no multiple of 4 either. `too large` is checked before `odd sheet`.
-fn main() {
-    program::run();
+#![tactic(auto)]
+
+use std::io;
+
+fn main(rt: HostRuntime) -> io::Result<()> {
+    program::run(&rt)
 }

@@ -1,4 +1,8 @@
 // The printing program where index.bin is missing; sheet.bin has 9,221 bytes, which is too large and odd. `no file` is checked first.
-fn main() {
-    program::run();
+#![tactic(auto)]
+
+use std::io;
+
+fn main(rt: HostRuntime) -> io::Result<()> {
+    program::run(&rt)
 }

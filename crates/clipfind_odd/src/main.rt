@@ -1,5 +1,9 @@
 // The printing program on P1's sheet with one byte more, 29 in all, and image I with version 2. `odd sheet` is checked before the call, which
 // would refuse the image.
-fn main() {
-    program::run();
+#![tactic(auto)]
+
+use std::io;
+
+fn main(rt: HostRuntime) -> io::Result<()> {
+    program::run(&rt)
 }

@@ -1,4 +1,8 @@
 // The printing program on P7 of document 01: image I with its last byte 41, and P1's sheet. It prints `refused 8 1`.
-fn main() {
-    program::run();
+#![tactic(auto)]
+
+use std::io;
+
+fn main(rt: HostRuntime) -> io::Result<()> {
+    program::run(&rt)
 }

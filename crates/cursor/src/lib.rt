@@ -1,5 +1,7 @@
 // Reading back the postings of an accepted image, "A list is a row of blocks": a cursor goes over one list, and nothing that judging has shown
 // is checked again. A contract settles which postings the cursor that is returned stands for; which record stands for them is left open.
+#![tactic(auto)]
+
 ghost use Rattle.std.specs.Prelude.{◌≡◌, ◌+◌, ◌*◌, ◌-◌, ◌/◌, ◌≤◌, ◌<◌, length, drop};
 ghost use Rattle.meaning.specs.Bits.{bits_at};
 ghost use Rattle.meaning.specs.Image.{index_of, Accepted};

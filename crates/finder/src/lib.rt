@@ -1,5 +1,7 @@
 // The whole call: the image judged once, then the sheet, then the room, then each query into its own stretch of the answer row. Document 01,
 // "What a call says".
+#![tactic(auto)]
+
 ghost use Rattle.std.specs.Prelude.{◌≡◌};
 ghost use Rattle.meaning.specs.Call.{says};
 ghost use Rattle.meaning.specs.Promise.{Promise};
@@ -57,9 +59,8 @@ fn code(said: Outcome) -> u64
     }
 }
 
-// The same call for C and Rust: each slice is a pointer and its number of elements, and the outcome is one number.
-#[unsafe(no_mangle)]
-pub extern "C" fn finder_answer(image: &[u8], sheet: &[u32], row: &mut [u32]) -> u64
+// The same call with the outcome as one number: what `finder_c` exports for C and Rust.
+pub fn finder_answer(image: &[u8], sheet: &[u32], row: &mut [u32]) -> u64
     ensures { Exported image.now sheet.now row.old result row.new }
 {
     code(answer(image, sheet, row))

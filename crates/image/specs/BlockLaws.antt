@@ -1,11 +1,9 @@
 -- Laws of a block: what its head and its postings make of it, and that its own part of the image is enough to judge it.
 use Rattle.std.specs.Prelude.{◌≡◌, refl, false, ◌&&◌, List, ℕ, zero, suc, ◌+◌, ◌-◌, ◌*◌, ◌≤◌, ◌<◌, ltb, leb, eqb}
 use Rattle.std.proofs.Common.{sym, ap, ◌∙◌, mul-le-mul, arith}
-use Rattle.std.proofs.Math.Path.{subst⁻¹}
 use Rattle.std.proofs.Math.ListN.{length}
 use borrow.Author.Tests.{le-leb, lt-leb}
 use Rattle.meaning.specs.Bits.{bits_at}
-use Rattle.meaning.specs.BitsLaws.{bits_lt}
 use Rattle.meaning.specs.Judged.{Judged, good, bad, ◌>>=◌, need}
 use Rattle.meaning.specs.JudgedLaws.{bind_good, need_good, good_same}
 use Rattle.meaning.specs.Layout.{Head, head_at, size_of}

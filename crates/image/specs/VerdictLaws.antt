@@ -1,11 +1,9 @@
 -- Laws of the verdict: the refusals in their order, and that no two verdicts are right for one image.
 use Rattle.std.specs.Prelude.{◌≡◌, refl, Bool, true, false, ◌&&◌, List, ℕ, ◌+◌, ◌*◌, ◌≤◌, ◌<◌, eqb}
-use Rattle.std.proofs.Common.{sym, ap, ◌∙◌, arith}
-use Rattle.std.proofs.Math.Path.{subst⁻¹}
+use Rattle.std.proofs.Common.{sym, ap, ◌∙◌}
 use Rattle.std.proofs.Math.Dec.{leb}
 use Rattle.std.proofs.Math.ListN.{length}
 use borrow.Author.Tests.{le-leb, lt-leb, eq-eqb, ne_eqb}
-use Rattle.meaning.specs.BitsLaws.{bits_lt}
 use Rattle.meaning.specs.Judged.{Judged, good, bad, ◌>>=◌, need}
 use Rattle.meaning.specs.JudgedLaws.{good_same}
 use Rattle.meaning.specs.Layout.{Header, header_of}

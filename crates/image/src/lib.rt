@@ -1,4 +1,6 @@
 // Judging an image: any bytes at all, refusals 1 to 8 of document 01 in its order, or what an accepted image holds.
+#![tactic(auto)]
+
 mod block;
 mod directory;
 mod list;

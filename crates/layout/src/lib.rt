@@ -1,5 +1,7 @@
 // The fixed fields of an image, as document 01 has them in "The image": its header, a directory entry, a block's head. Each is read as one
 // number and taken apart; judging and reading back share them.
+#![tactic(auto)]
+
 ghost use Rattle.std.specs.Prelude.{◌≡◌, ◌+◌, ◌*◌, ◌≤◌, ◌<◌, length};
 ghost use Rattle.meaning.specs.Layout.{header_of, entry_at, head_at};
 ghost use Rattle.layout.specs.Fields.{header_fields, entry_fields, head_fields};

@@ -1,11 +1,11 @@
 -- A sheet with another number for query i's budget is accepted as the same queries with that budget in query i.
-use Rattle.std.specs.Prelude.{◌≡◌, refl, ◌⊎◌, get_or, take, set}
-use Rattle.std.proofs.Common.{sym, ap, ◌∙◌, inl, inr, arith, length-set}
+use Rattle.std.specs.Prelude.{◌≡◌, ◌⊎◌, get_or, take, set}
+use Rattle.std.proofs.Common.{◌∙◌, inl, inr, arith, length-set}
 use mathlib.Core.List.{List, [], ◌∷◌}
 use Prim.Native.Nat.{ℕ, zero, suc, ◌+◌, ◌*◌, ◌≤◌, ◌<◌}
 use Rattle.std.proofs.Math.ListN.{length}
 use Rattle.meaning.specs.Sheet.{Pair, Query, no_query, rebudgeted, numbers_of}
-use Rattle.meaning.specs.SheetFits.{PairFits, PairsFit, QueryFits, QueriesFit, SheetFits}
+use Rattle.meaning.specs.SheetFits.{PairsFit, QueryFits, QueriesFit, SheetFits}
 use Rattle.meaning.specs.Promise.{SameBut}
 
 module _ (B : ℕ) (s s' : List ℕ) (but : SameBut B s s') (T : ℕ) where

@@ -1,4 +1,5 @@
 // What the finder means: the types that the meaning shares with the code. Document 01 stands as definitions in specs/.
+#![tactic(auto)]
 
 // "one of three named kinds": 0 plain, 1 pruned, 2 all terms.
 #[derive(Clone, Copy)]

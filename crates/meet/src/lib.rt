@@ -1,5 +1,7 @@
 // The walk of mode 2: "Mode 2 visits every matching document at cost q." The lists are intersected document at a time; the shortest leads,
 // and the others are sought past whole blocks by their heads. The array goes in by value and comes back with the visit.
+#![tactic(auto)]
+
 ghost use Rattle.std.specs.Prelude.{◌≡◌, ◌≤◌, ◌<◌, get_or};
 ghost use Rattle.meaning.specs.Image.{index_of};
 ghost use Rattle.runs.specs.declared.Turn.TheVariants.{Entered};

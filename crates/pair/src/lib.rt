@@ -1,5 +1,7 @@
 // One mention above rank j, or two: their postings in order of document, each scored, up to a document whose sum passes the bar less P(j), the stop,
 // or the end. Two have the keys of their next postings in a room, read ahead. "All such postings are scored."
+#![tactic(auto)]
+
 ghost use Rattle.std.specs.Prelude.{◌≡◌, true, false, ◌<◌, length};
 ghost use Rattle.pair.specs.Alone.{SomeAlone, EachAlone};
 ghost use Rattle.pair.specs.Pair.{Passed, Back, SomePair, EachPair};

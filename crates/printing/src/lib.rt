@@ -1,5 +1,7 @@
 // What the printing program prints, laid into a lent buffer, and what it decides and reads before. Document 01, "The printing program".
 // Each writer lays its text from byte `at` on and answers the place after it; what is past the buffer's end is left out.
+#![tactic(auto)]
+
 ghost use Rattle.std.specs.Prelude.{◌≡◌, ◌+◌, ◌*◌, ◌≤◌, min, [], ◌∷◌, length, get_or};
 ghost use Rattle.printing.specs.Text.{decimal as text_decimal};
 ghost use Rattle.printing.specs.Text.{pair_line, first_line, row_lines, answer_lines, refused_line};
@@ -133,6 +135,7 @@ pub fn answers(out: &mut [u8], sheet: &[u32], row: &[u32]) -> usize
 }
 
 // What the program's two files come to: whether each is there, and how many bytes it has.
+#[tactic(auto, using(crate::specs::DecideLaws::no_file, crate::specs::DecideLaws::too_large, crate::specs::DecideLaws::odd_sheet, crate::specs::DecideLaws::go_on))]
 pub fn decide(
     index_there: bool,
     index_bytes: usize,

@@ -1,34 +1,36 @@
 // The printing program but for its `main`: what index.bin and sheet.bin in the folder where it is run come to, printed. Document 01, "The
 // printing program". All that is decided and printed is `printed`'s, under its contract; `run` reads the two files and writes the text.
+#![tactic(auto)]
+
 ghost use Rattle.std.specs.Prelude.{◌≤◌, length};
 ghost use Rattle.printing.specs.Laid.{Wrote};
 ghost use Rattle.program.specs.Program.{call_lines, program_lines};
 
-use libc::STDOUT_FILENO;
 use meaning::Outcome;
 use printing::Decision;
+use std::io::Read;
+use std::rt::Files;
+use std::{fs, io};
 
 // What reading a file gave: whether it could be read, and how many bytes came, as far as there was room.
-#[derive(Drop)]
+#[derive(Clone, Copy)]
 struct Held {
     pub there: bool,
     pub bytes: usize,
 }
 
 // Reads until the buffer is full or the input ends. A directory opens, and its first read fails.
-fn fill(fd: i32, buf: &mut [u8]) -> Held
+fn fill(input: &mut impl Read, buf: &mut [u8]) -> Held
     ensures { result.bytes ≤ length buf.old }
 {
     let mut done = 0;
     while done < buf.len() {
-        let got = libc::read(fd, &mut buf[done..]);
-        if got < 0 {
+        let Ok(n) = input.read(&mut buf[done..]) else {
             return Held {
                 there: false,
                 bytes: 0,
             };
-        }
-        let n = io::count(got, &buf[done..]);
+        };
         if n == 0 {
             return Held {
                 there: true,
@@ -43,19 +45,16 @@ fn fill(fd: i32, buf: &mut [u8]) -> Held
     }
 }
 
-fn load(path: &[u8], buf: &mut [u8]) -> Held
+fn load(rt: &impl Files, path: &str, buf: &mut [u8]) -> Held
     ensures { result.bytes ≤ length buf.old }
 {
-    let fd = os::open_read(path);
-    if fd < 0 {
+    let Ok(mut file) = fs::open(rt, path) else {
         return Held {
             there: false,
             bytes: 0,
         };
-    }
-    let held = fill(fd, buf);
-    libc::close(fd);
-    held
+    };
+    fill(&mut file, buf)
 }
 
 // The lines of each query, or the refusal's.
@@ -89,15 +88,15 @@ pub fn printed(
     called(out, index, &sheet[..n], &mut row)
 }
 
-// The whole program. Each buffer has a byte more than its file may have, so that one too large is known.
-pub fn run() {
+// The whole program. Each buffer has a byte more than its file may have, so that one too large is known. An error is one of writing the text.
+pub fn run(rt: &(impl Files + Print)) -> io::Result<()> {
     let mut index = [0u8; 65537];
     let mut sheet = [0u8; 9221];
     let mut out = [0u8; 176064];
-    let a = load(b"index.bin", &mut index);
-    let b = load(b"sheet.bin", &mut sheet);
+    let a = load(rt, "index.bin", &mut index);
+    let b = load(rt, "sheet.bin", &mut sheet);
     let m = a.bytes;
     let n = b.bytes;
     let end = printed(&mut out, a.there, &index[..m], b.there, &sheet[..n]);
-    io::write_all(STDOUT_FILENO, &out[..end]);
+    rt.write_all(&out[..end])
 }

@@ -1,33 +1,33 @@
 // The words and numbers that the programs of edges and worked cases print, a line a case.
-use libc::STDOUT_FILENO;
+#![tactic(auto)]
 
-pub fn text(bytes: &[u8]) {
-    io::write_all(STDOUT_FILENO, bytes);
+use std::io;
+
+pub fn text(rt: &impl Print, bytes: &[u8]) -> io::Result<()> {
+    rt.write_all(bytes)
 }
 
 // A count or a place, after a space.
-pub fn count(n: usize) {
-    text(b" ");
-    io::print_decimal(STDOUT_FILENO, n as u64);
+pub fn count(rt: &impl Print, n: usize) -> io::Result<()> {
+    print!(rt; " {n}")
 }
 
 // A 32-bit number, after a space.
-pub fn number(n: u32) {
-    count(n as usize);
+pub fn number(rt: &impl Print, n: u32) -> io::Result<()> {
+    count(rt, n as usize)
 }
 
 // The numbers of a row, each after a space.
-pub fn numbers(row: &[u32]) {
-    let mut i: usize = 0;
-    while i < row.len() {
-        number(row[i]);
-        i += 1;
+pub fn numbers(rt: &impl Print, row: &[u32]) -> io::Result<()> {
+    for n in row {
+        number(rt, *n)?;
     }
+    Ok(())
 }
 
 // What is said of a case that is refused: its fault's number and place.
-pub fn refused(fault: u32, place: usize) {
-    text(b": refused");
-    number(fault);
-    count(place);
+pub fn refused(rt: &impl Print, fault: u32, place: usize) -> io::Result<()> {
+    text(rt, b": refused")?;
+    number(rt, fault)?;
+    count(rt, place)
 }

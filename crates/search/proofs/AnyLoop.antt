@@ -13,7 +13,7 @@ use Rattle.meaning.specs.Place.{spent}
 use Rattle.meaning.specs.Score as sc
 use Rattle.meaning.specs.Asked.{Asked}
 use Rattle.meaning.specs.Rank.{ranked, kth, insert}
-use Rattle.meaning.specs.Cost.{no_mention, ordered, P, aside, last, at_most, ceiling, visit_at}
+use Rattle.meaning.specs.Cost.{no_mention, ordered, P, aside, last, at_most, visit_at}
 use Rattle.meaning.specs.OrderedLaws.{ordered_length}
 use Rattle.meaning.specs.AsideLaws.{last_le}
 use Rattle.meaning.specs.RankLaws.{Under}

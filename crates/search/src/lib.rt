@@ -1,4 +1,6 @@
 // One query of an accepted sheet over an accepted image: its mentions, the walk of its mode, and its stretch of the answer row.
+#![tactic(auto)]
+
 pub mod all;
 pub mod any;
 pub mod gather;

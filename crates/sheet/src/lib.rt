@@ -1,5 +1,7 @@
 // A sheet of 32-bit numbers: judged by refusals 9 to 15 in reading order, and a query's record read from it
 // (document 01, "The sheet and the answer row").
+#![tactic(auto)]
+
 ghost use Rattle.std.specs.Prelude.{◌≡◌, ◌+◌, ◌*◌, ◌≤◌, length};
 ghost use Rattle.meaning.specs.Sheet.{within, mode_of, pairs_at, query_at, queries_at, sheet_of};
 ghost use Rattle.sheet.specs.Verdict.{verdict, needed_of, roomed};
@@ -175,6 +177,7 @@ pub fn room(v: Verdict, row_len: usize) -> Verdict
     }
 }
 
+#[tactic(auto, using(crate::proofs::Laws::mode_plain, crate::proofs::Laws::mode_pruned, crate::proofs::Laws::mode_all))]
 fn mode_of(number: u32) -> Mode
     ensures { result ≡ mode_of number }
 {

@@ -1,5 +1,7 @@
 // The postings of two mentions or more above rank j, in order of document: each mention's keys are read ahead into its part of a room, and rows of
 // numbers tell how far on each is. "A document is visited if a mention above rank j holds it. All such postings are scored."
+#![tactic(auto)]
+
 ghost use Rattle.std.specs.Prelude.{◌+◌, ◌≤◌};
 ghost use Rattle.visit.specs.Stand.{SoundFrom};
 ghost use Rattle.sweep.specs.Keys.{Blank};

@@ -1,5 +1,7 @@
 // A document is visited: where a walk ended, a mention that goes on or is sought, whether postings are taken on. The walks of all modes are made of
 // these steps; what holds of each while a document is visited stands in specs. "A document is visited if a mention above rank j holds it."
+#![tactic(auto)]
+
 ghost use Rattle.std.specs.Prelude.{◌≡◌, ◌⊎◌, true, false, ◌+◌, ◌-◌, ◌≤◌, ◌<◌};
 ghost use Rattle.visit.specs.Key.{key_of};
 ghost use Rattle.visit.specs.Stand.{Stands, Lags, Goes};

@@ -1,9 +1,8 @@
 -- Laws of the mentions that are stood at their places one by one when a document enters: in the end the array has each where it is.
-use Rattle.std.specs.Prelude.{◌≡◌, refl, ◌⊎◌, List, ℕ, ◌+◌, ◌*◌, ◌-◌, ◌≤◌, ◌<◌, length, get_or, set}
+use Rattle.std.specs.Prelude.{◌≡◌, refl, List, ℕ, ◌+◌, ◌*◌, ◌-◌, ◌≤◌, ◌<◌, length, get_or, set}
 use Rattle.std.proofs.Common.{sym, ap, ◌∙◌, inl, inr, ⊎_elim, arith, length-set, get_or-set_other, ext_get_or}
 use Rattle.lists.specs.Tests.{by_order}
 use Rattle.lists.specs.Places.{at_place}
-use Rattle.meaning.specs.Score as sc
 use Rattle.mentions.specs.declared.Mention.{Mention}
 use Rattle.mentions.specs.Mentions.{none}
 use Rattle.ahead.specs.Side.{seated, Stood}

@@ -1,6 +1,6 @@
 -- Where the mentions stand while the walk goes on: of two or more above rank j the array has each where its part of the room starts, and there is an array
 -- of them where they are; of one above rank j the two are the same.
-use Rattle.std.specs.Prelude.{◌≡◌, ◌⊎◌, List, ℕ, ◌+◌, ◌-◌, ◌/◌, ◌≤◌, ◌<◌, length, get_or}
+use Rattle.std.specs.Prelude.{◌≡◌, ◌⊎◌, List, ℕ, ◌+◌, ◌/◌, ◌≤◌, ◌<◌, length, get_or}
 use Rattle.meaning.specs.Score as sc
 use Rattle.runs.specs.Run.{Run}
 use Rattle.mentions.specs.declared.Mention.{Mention}

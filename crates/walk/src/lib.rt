@@ -1,5 +1,7 @@
 // The walk of modes 0 and 1: document at a time over the mentions' cursors. "A document is visited if a mention above rank j holds it. All
 // such postings are scored. Then, from rank j down to 1 .." The array of mentions goes in by value and comes back with the visit.
+#![tactic(auto)]
+
 ghost use Rattle.std.specs.Prelude.{◌≡◌, ◌+◌, ◌≤◌, ◌<◌, length, get_or};
 ghost use Rattle.runs.specs.declared.Turn.TheVariants.{Entered};
 ghost use Rattle.meaning.specs.Image.{index_of};

@@ -1,5 +1,7 @@
 // A block's postings, several to a word: "per posting a gap of w bits and an impact of 8 bits". Words are read two at a time, and weighed side by side:
 // what all gaps come to, whether each impact is 1 to the block's largest, and whether one is the largest.
+#![tactic(auto)]
+
 ghost use Rattle.std.specs.Prelude.{◌≡◌, ℕ, ◌+◌, ◌-◌, ◌*◌, ◌/◌, ◌%◌, ◌^◌, ◌≤◌, ◌<◌, min, length};
 ghost use Rattle.meaning.specs.Bits.{bits_at};
 ghost use Rattle.words.specs.Lanes.{Packs, Packed, Bytewise, sum_lanes, sum_at, sum_words, ones_of};

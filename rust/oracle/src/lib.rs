@@ -11,7 +11,7 @@
 //!
 //! # Running the tests
 //!
-//! In the folder `rust` of the repository, once `rt staticlib finder` has written `target/staticlib/libfinder.a`:
+//! In the folder `rust` of the repository, once `.ci/archive` has written `target/staticlib/libfinder.a`:
 //!
 //! ```text
 //! CLIPFIND=<path of the program clipfind> cargo test --offline --release

@@ -1,5 +1,5 @@
 -- A block's head, read from the part that is cut at the byte that holds its first bit.
-use Prim.Native.Nat.{◌+◌, ◌/◌, ◌%◌}
+use Prim.Native.Nat.{◌/◌}
 use mathlib.Core.Path.{◌≡◌, ap, ◌∙◌}
 use native.Mathlib.Omega.{arith}
 use Rattle.meaning.specs.Layout.{Head, head_at}

@@ -1,8 +1,6 @@
 -- A directory entry, and the list that it names.
 use mathlib.Core.Path.{◌≡◌, refl, sym, ap, ◌∙◌}
-use Prim.Native.Nat.{◌+◌, ◌*◌, ◌≤◌}
 use native.Mathlib.Omega.{arith}
-use lib.ListN.{length}
 use Rattle.meaning.specs.Layout.{Entry}
 use Rattle.layout.specs.Fields.{entry_fields}
 use Rattle.layout.specs.FieldsLaws.{EntryBounds, entry_bounds}

@@ -1,6 +1,5 @@
 -- `printing::refusal` meets its contract: the word, and the two numbers.
 use native.Mathlib.Omega.{arith}
-use borrow.Author.Rules.{rules}
 use Rattle.printing.specs.Text.{refused_line}
 use Rattle.printing.specs.LaidLaws.{wrote_then, wrote_length}
 use Rattle.printing.proofs.refusal.Statement.{statement}

@@ -1,8 +1,6 @@
 -- `answer_query` meets its contract: what the walk has found by the rule of its mode, and `write` puts down, is the written answer.
 use mathlib.Core.Path.{◌≡◌, ◌∙◌}
-use mathlib.Core.List.{List}
 use mathlib.Core.Logic.{⊎_elim}
-use Prim.Native.Nat.{ℕ}
 use native.Mathlib.Omega.{arith}
 use borrow.Author.Rules.{rules}
 use Rattle.meaning.specs.declared.Mode.{Mode}

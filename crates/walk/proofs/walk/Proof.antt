@@ -8,7 +8,7 @@ use native.Mathlib.Omega.{arith}
 use lib.ListN.{length, set, drop, length-map, length-take, length-set}
 use lib.Seq.{set-get_or}
 use borrow.Author.Rules.{rules}
-use borrow.Author.Tests.{ltb-true, ltb-false}
+use borrow.Author.Tests.{ltb-true}
 use borrow.Author.Count.{falls_down}
 use mir.Syntax.{w64}
 use mir.Val.{Fits}

@@ -1,10 +1,10 @@
 -- `write` meets its contract: after i turns the first 3 + 2i numbers stand, and after k the whole stretch.
-use mathlib.Core.Path.{◌≡◌, refl, sym, ap, ◌∙◌}
+use mathlib.Core.Path.{◌≡◌, refl, ap, ◌∙◌}
 use Prim.Native.Nat.{ℕ, ◌+◌, ◌-◌, ◌*◌, ◌≤◌}
 use mathlib.Core.List.{List, ◌++◌}
 use mathlib.Core.Logic.{⊎_elim}
 use native.Mathlib.Omega.{arith}
-use lib.ListN.{length, take, get_or, set, length-map}
+use lib.ListN.{length, take, get_or, set}
 use lib.Seq.{lt-length-set}
 use borrow.Author.Rules.{rules}
 use Rattle.meaning.specs.Rank.{no_row}
