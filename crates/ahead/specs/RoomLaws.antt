@@ -133,11 +133,15 @@ pub record Ahead (s : List ℕ) (c : Cursor) (p k bit high : ℕ) : Type 0 where
   pub near : bit ≤ c.at + 32 * k
   pub past : high ≡ (further_at s c k).past * 4096 + p * 256
 
+-- the key but for its impact, a posting further
+abbrev pub risen : ℕ → ℕ → ℕ
+risen high x = high + (x / 256 + 1) * 4096
+
 -- the next posting from there, out of the number x that its bits are
 pub record Read (s : List ℕ) (c : Cursor) (p k bit high step x : ℕ) : Type 0 where
-  pub small : high + x / 256 * 4096 + 4096 < 68719476736
-  pub key : high + x / 256 * 4096 + 4096 + x % 256 ≡ key_of (further_at s c (suc k)) p
-  pub ahead : Ahead s c p (suc k) (bit + step) (high + x / 256 * 4096 + 4096)
+  pub small : risen high x < 68719476736
+  pub key : risen high x + x % 256 ≡ key_of (further_at s c (suc k)) p
+  pub ahead : Ahead s c p (suc k) (bit + step) (risen high x)
 
 pub ahead_read : {s : List ℕ} {N : ℕ} {c : Cursor} {p k bit high step x : ℕ} → Sound s N c → p < 16 → k < c.rest → Ahead s c p k bit high →
     c.step ≡ step → x ≡ bits_at s bit step → Read s c p k bit high step x
@@ -169,10 +173,6 @@ module _ (s : List ℕ) (bit step : ℕ) {z one : ℕ} (e : z ≡ bits_at s bit 
 
   pub pair_second : z % one ≡ bits_at s (bit + step) step
   pair_second = rw (e, power, twice) (bits_second s bit step step)
-
--- the key but for its impact, a posting further
-abbrev pub risen : ℕ → ℕ → ℕ
-risen high x = high + x / 256 * 4096 + 4096
 
 -- one posting more, and two: where there is no second one, what is put in for it is none of the keys
 module _ {s : List ℕ} {c : Cursor} {p base end : ℕ} {room : List ℕ} {step : ℕ} (b : Begun s c p base end room) (same : c.step ≡ step) where

@@ -15,6 +15,9 @@ use mentions::Mention;
 // How many places a mention's part of the room has.
 pub const PART: usize = 66;
 
+// How many places the room has: a part for each of sixteen mentions.
+pub const ROOM: usize = 16 * PART;
+
 // Where a mention is in its part of the room: its key, the place after that, and the key there.
 #[derive(Clone, Copy)]
 pub struct Spot {
@@ -24,22 +27,20 @@ pub struct Spot {
 }
 
 // The keys of the postings after the cursor's own, into the places of the room up to `end`: near the image's end or anywhere.
-fn unpack_near(image: &[u8], c: Cursor, p: usize, base: usize, end: usize, room: &mut [u64])
+fn unpack_near(image: &[u8], c: Cursor, p: usize, base: usize, end: usize, room: &mut [u64; ROOM])
     requires { Begun image.now c p base end room.old }
     ensures { Filling image.now c p base room.old end room.new }
 {
     let mut c = c;
-    let mut at = base + 1;
-    while at < end {
+    for at in base + 1..end {
         c = cursor::take_next(image, c);
         room[at] = visit::key(c, p);
-        at += 1;
     }
 }
 
 // The same far from the image's end, where postings are short: two are read at once, and the key goes up by each gap. Where one is left the second
 // is put in the place after the last, which the 0 takes.
-fn unpack_far(image: &[u8], c: Cursor, p: usize, base: usize, end: usize, room: &mut [u64])
+fn unpack_far(image: &[u8], c: Cursor, p: usize, base: usize, end: usize, room: &mut [u64; ROOM])
     requires { Begun image.now c p base end room.old × (c.at / 8 + 272 ≤ length image.now) × (c.step ≤ 28) }
     ensures { Filling image.now c p base room.old end room.new }
 {
@@ -47,22 +48,23 @@ fn unpack_far(image: &[u8], c: Cursor, p: usize, base: usize, end: usize, room: 
     let both = 2 * step;
     let one = 1u64 << step;
     let mut bit = c.at as usize;
-    let mut high = (c.past as u64) * 4096 + (p as u64) * 256;
-    let mut at = base + 1;
-    while at < end {
+    let mut high = u64::from(c.past) * 4096 + (p as u64) * 256;
+    // the pairs are counted: over the places by `step_by(2)` each turn has a second test
+    for pair in 0..(end - base) / 2 {
+        let at = base + 1 + 2 * pair;
         let z = cursor::bits_within(image, bit, both);
         let x = z / one;
         let y = z % one;
-        high = high + x / 256 * 4096 + 4096;
+        high += (x / 256 + 1) * 4096;
         room[at] = high + x % 256;
-        high = high + y / 256 * 4096 + 4096;
+        high += (y / 256 + 1) * 4096;
         room[at + 1] = high + y % 256;
         bit += both;
-        at += 2;
     }
 }
 
-// How many bytes there have to be from a posting on for the faster way: of postings longer than 28 bits more than an image has.
+// How many bytes there have to be from a posting on for the faster way: of postings longer than 28 bits more than an image has. A test of the length
+// itself before that way's loop makes the loop slower.
 fn reach(step: u32) -> usize
     ensures { (272 ≤ result) × (28 < step → result ≡ 4294967296) }
 {
@@ -70,17 +72,13 @@ fn reach(step: u32) -> usize
 }
 
 // Up to `most` keys of a mention's postings, from its own on in its block, into the places of the room from `base` on; 0 after the last.
-pub fn unpack(image: &[u8], c: Cursor, p: usize, base: usize, most: usize, room: &mut [u64])
-    requires { Sound image.now (index_of image.now).docs c × (p < 16) × (base ≤ 990) × (0 < most) × (most ≤ 64) × (length room.old ≡ 1056) }
+pub fn unpack(image: &[u8], c: Cursor, p: usize, base: usize, most: usize, room: &mut [u64; ROOM])
+    requires { Sound image.now (index_of image.now).docs c × (p < 16) × (base ≤ 990) × (0 < most) × (most ≤ 64) }
     ensures { Unpacked image.now c p base room.old room.new }
 {
     room[base] = visit::key(c, p);
     let rest = c.rest as usize;
-    let end = if rest < most {
-        base + 1 + rest
-    } else {
-        base + most
-    };
+    let end = base + most.min(1 + rest);
     if reach(c.step) <= image.len() - (c.at as usize) / 8 {
         unpack_far(image, c, p, base, end, room);
     } else {
@@ -103,9 +101,7 @@ pub fn stood(image: &[u8], m: Mention, key: u64, n: usize) -> Mention
         impact: (key % 256) as u32,
         at: m.cursor.at + k * m.cursor.step,
         rest: m.cursor.rest - k,
-        left: m.cursor.left,
-        step: m.cursor.step,
-        last: m.cursor.last,
+        ..m.cursor
     };
     Mention { cursor: c, ..m }
 }
@@ -118,9 +114,9 @@ pub fn refilled(
     n: usize,
     p: usize,
     base: usize,
-    room: &mut [u64],
+    room: &mut [u64; ROOM],
 ) -> Mention
-    requires { Stood image.now m key n × (p < 16) × (base ≤ 990) × (length room.old ≡ 1056)
+    requires { Stood image.now m key n × (p < 16) × (base ≤ 990)
         × Stands image.now ((seated image.now m n).cursor.past - 1) (seated image.now m n)
         × ((seated image.now m n).cursor.past ≡ 4294967295 → ⊥) }
     ensures { Goes image.now (seated image.now m n).cursor.past (seated image.now m n) result

@@ -1,13 +1,11 @@
 -- Laws of the number that whole bytes are, and of a field that two shifts take out of eight bytes.
-use Rattle.std.specs.Prelude.{ℕ, zero, suc, ◌+◌, ◌-◌, ◌*◌, ◌/◌, ◌%◌, ◌^◌, ◌≤◌, ◌<◌, ◌≡◌, refl, List, length, get_or}
-use Rattle.std.proofs.Common.{sym, ap, ◌∙◌, shr-shr, shl_exact, shl_lt, pow-add, mul_assoc, zero-add, arith}
-use Rattle.std.proofs.Math.ListN.{get_or-eq_default}
+use Rattle.std.specs.Prelude.{ℕ, zero, suc, ◌+◌, ◌-◌, ◌*◌, ◌/◌, ◌%◌, ◌^◌, ◌≤◌, ◌<◌, ◌≡◌, refl, List, length, get_or, take}
+use Rattle.std.proofs.Common.{sym, ap, ◌∙◌, shr-shr, shl_exact, shl_lt, pow-add, mul_assoc, zero-add, length-take, arith}
 use Rattle.std.proofs.lemmas.Nat.{shl-shr}
 use Rattle.std.proofs.Math.Pow.{field}
-use Rattle.std.proofs.Math.Nat.{zero-div}
 use Rattle.meaning.specs.Bits.{bit_at, bits_at}
-use Rattle.meaning.specs.BitsLaws.{bits_lt}
-use Rattle.bits.specs.BitsSplit.{bits_add, bits_within}
+use Rattle.meaning.specs.BitsLaws.{bits_lt, bit_past}
+use Rattle.bits.specs.BitsSplit.{bits_below, bits_add, bits_first, bits_within, bits_take}
 
 -- bit j of byte k
 bit_byte : (s : List ℕ) (k j : ℕ) → j < 8 → bit_at s (8 * k + j) ≡ get_or s k 0 / 2 ^ (7 - j) % 2
@@ -32,16 +30,24 @@ bytes_more s k h =
     let e : 8 * (k + 1) ≡ 8 * k + 8 = omega arith in
     rw (e, bits_add s 0 (8 * k) 8, zero-add, bits_top s k 8 0 refl h) (omega arith)
 
+-- fewer than eight bytes leave room for one more
+pub bytes_fit : (s : List ℕ) (k : ℕ) → k < 8 → bits_at s 0 (8 * k) < 72057594037927936
+bytes_fit s k h = bits_below s 0 (8 * k) 56 (omega arith)
+
+-- the first eight bytes of a part
+pub word_whole : (s : List ℕ) → 8 ≤ length s → bits_at (take 8 s) 0 (8 * length (take 8 s)) ≡ bits_at s 0 64
+word_whole s h =
+    let e : length (take 8 s) ≡ 8 = omega (arith, length-take 8 s) in
+    rw (e, bits_take s 8 0 64 (omega arith))
+
 -- past the end every bit is 0
 bits_past : (s : List ℕ) (i n : ℕ) → 8 * length s ≤ i → bits_at s i n ≡ 0
-unfolding bits_at bit_at
+unfolding bits_at
 bits_past s i zero h = refl
-bits_past s i (suc n) h =
-    let z : get_or s ((i + n) / 8) 0 ≡ 0 = get_or-eq_default s 0 {n = (i + n) / 8} (omega arith) in
-    rw (bits_past s i n h, z, zero-div)
+bits_past s i (suc n) h = rw (bits_past s i n h, bit_past s (i + n) (omega arith))
 
 -- a part of less than eight bytes, with zeros after it
-pub word_short : (s : List ℕ) → length s < 8 → bits_at s 0 (8 * length s) * 2 ^ 1 % 2 ^ 64 * 2 ^ (63 - 8 * length s) % 2 ^ 64 ≡ bits_at s 0 64
+pub word_short : (s : List ℕ) → length s < 8 → bits_at s 0 (8 * length s) * 2 % 2 ^ 64 * 2 ^ (63 - 8 * length s) % 2 ^ 64 ≡ bits_at s 0 64
 word_short s h =
     let l = 8 * length s in
     let b = bits_at s 0 l in
@@ -55,6 +61,12 @@ word_short s h =
     ∙ mul_assoc b (2 ^ 1) (2 ^ (63 - l))
     ∙ ap (λ (x : ℕ). b * x) (sym (pow-add 2 1 (63 - l)) ∙ ap (λ (x : ℕ). 2 ^ x) sum)
     ∙ omega (arith, rw (whole, none) at (bits_add s 0 l (64 - l)))
+
+-- the first n bits, by a shift to the right
+pub shift_first : (s : List ℕ) (n : ℕ) → n ≤ 64 → bits_at s 0 64 / 2 ^ (64 - n) ≡ bits_at s 0 n
+shift_first s n h =
+    let whole : n + (64 - n) ≡ 64 = omega arith in
+    rw whole at (bits_first s 0 n (64 - n))
 
 -- a field of n bits from bit r on, by a shift to the left and one to the right
 pub shifts_within : (s : List ℕ) (r n : ℕ) → r + n ≤ 64 → bits_at s 0 64 * 2 ^ r % 2 ^ 64 / 2 ^ (64 - n) ≡ bits_at s r n
@@ -70,7 +82,7 @@ shifts_within s r n h =
     ∙ rw (parts, zero-add r) at (bits_within s 0 r n t)
 
 -- the same by two shifts to the right, where n may be 0
-pub shifts_field : (s : List ℕ) (r n : ℕ) → r < 8 → n ≤ 57 → bits_at s 0 64 * 2 ^ r % 2 ^ 64 / 2 ^ 1 / 2 ^ (63 - n) ≡ bits_at s r n
+pub shifts_field : (s : List ℕ) (r n : ℕ) → r < 8 → n ≤ 57 → bits_at s 0 64 * 2 ^ r % 2 ^ 64 / 2 / 2 ^ (63 - n) ≡ bits_at s r n
 shifts_field s r n h k =
     let x = bits_at s 0 64 in
     let right : 1 + (63 - n) ≡ 64 - n = omega arith in

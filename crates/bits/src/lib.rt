@@ -5,35 +5,30 @@
 ghost use Rattle.std.specs.Prelude.{◌≡◌, ◌+◌, ◌*◌, ◌≤◌, ◌<◌, length};
 ghost use Rattle.meaning.specs.Bits.{bits_at};
 
-fn wide(x: u8) -> u64
-    ensures { result ≡ x }
-{
-    x as u64
-}
-
-// The first m bytes as one number, the first byte highest.
-fn gather(part: &[u8], m: usize) -> u64
-    requires { (m ≤ 8) × (m ≤ length part.now) }
-    ensures { result ≡ bits_at part.now 0 (8 * m) }
+// Up to eight bytes as one number, the first byte highest.
+#[tactic(auto, using(crate::specs::Windows::bytes_fit, crate::specs::Windows::bytes_more), unfolding(meaning::specs::Bits::bits_at))]
+fn gather(part: &[u8]) -> u64
+    requires { length part.now ≤ 8 }
+    ensures { result ≡ bits_at part.now 0 (8 * length part.now) }
 {
     let mut v: u64 = 0;
-    let mut i: usize = 0;
-    while i < m {
-        v = v * 256 + wide(part[i]);
-        i += 1;
+    for &byte in part {
+        v = v * 256 + u64::from(byte);
     }
     v
 }
 
 // The 64 bits of the first eight bytes.
+#[tactic(auto, using(crate::specs::Windows::word_whole))]
 pub fn word(part: &[u8]) -> u64
     requires { 8 ≤ length part.now }
     ensures { result ≡ bits_at part.now 0 64 }
 {
-    gather(part, 8)
+    gather(&part[..8])
 }
 
 // The first n bits, 1 to 64, of at least eight bytes.
+#[tactic(auto, using(crate::specs::Windows::shift_first))]
 pub fn first(part: &[u8], n: usize) -> u64
     requires { (0 < n) × (n ≤ 64) × (8 ≤ length part.now) }
     ensures { result ≡ bits_at part.now 0 n }
@@ -42,11 +37,12 @@ pub fn first(part: &[u8], n: usize) -> u64
 }
 
 // The same where fewer bytes are there: zeros follow them.
+#[tactic(auto, using(crate::specs::Windows::word_short))]
 fn word_end(part: &[u8]) -> u64
     requires { length part.now < 8 }
     ensures { result ≡ bits_at part.now 0 64 }
 {
-    gather(part, part.len()) << 1 << (63 - 8 * part.len())
+    gather(part) << 1 << (63 - 8 * part.len())
 }
 
 fn window(part: &[u8]) -> u64
@@ -60,6 +56,7 @@ fn window(part: &[u8]) -> u64
 }
 
 // The n bits from bit `shift` of a part on.
+#[tactic(auto, using(crate::specs::Windows::shifts_field))]
 pub fn field(part: &[u8], shift: usize, n: usize) -> u64
     requires { (shift < 8) × (n ≤ 57) × (shift + n ≤ 8 * length part.now) }
     ensures { result ≡ bits_at part.now shift n }
@@ -68,6 +65,7 @@ pub fn field(part: &[u8], shift: usize, n: usize) -> u64
 }
 
 // The n bits from bit `shift` on, of a part of at least eight bytes.
+#[tactic(auto, using(crate::specs::Windows::shifts_within))]
 pub fn within(part: &[u8], shift: usize, n: usize) -> u64
     requires { (0 < n) × (shift + n ≤ 64) × (8 ≤ length part.now) }
     ensures { result ≡ bits_at part.now shift n }

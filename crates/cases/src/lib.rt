@@ -15,27 +15,23 @@ pub const A_AND_B: [u8; 42] = *b"\x10\x02\x00\x00\x14\x00\x00\x2a\
 // A case whose row is lent by the program.
 pub fn call(
     rt: &impl Print,
-    name: &[u8],
+    name: &str,
     image: &[u8],
     sheet: &[u32],
     row: &mut [u32],
 ) -> io::Result<()> {
-    report::text(rt, name)?;
-    let said = finder::answer(image, sheet, row);
-    match said {
-        Outcome::Done(count) => {
-            report::text(rt, b": done")?;
-            report::count(rt, count)?;
-        }
-        Outcome::Refused(fault, place) => report::refused(rt, fault, place)?,
+    match finder::answer(image, sheet, row) {
+        Outcome::Done(count) => print!(rt; "{name}: done {count}:")?,
+        Outcome::Refused(number, place) => print!(rt; "{name}: refused {number} {place}:")?,
     }
-    report::text(rt, b":")?;
-    report::numbers(rt, row)?;
-    report::text(rt, b"\n")
+    for n in row.iter() {
+        print!(rt; " {n}")?;
+    }
+    println!(rt; "")
 }
 
 // A case with a row of eight numbers, each 99 before the call: more than one query of k = 1 or k = 2 fills.
-pub fn case(rt: &impl Print, name: &[u8], image: &[u8], sheet: &[u32]) -> io::Result<()> {
+pub fn case(rt: &impl Print, name: &str, image: &[u8], sheet: &[u32]) -> io::Result<()> {
     let mut row = [99u32; 8];
     call(rt, name, image, sheet, &mut row)
 }

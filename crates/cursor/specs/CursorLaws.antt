@@ -1,8 +1,9 @@
 -- What a caller may know of a sound cursor: its current posting, its end, and that what is left of its list rises.
-use Rattle.std.specs.Prelude.{◌≡◌, List, [], ◌∷◌, ◌++◌, ℕ, suc, ◌-◌, eqb, drop}
-use Rattle.std.proofs.Common.{arith, eq-eqb, ne_eqb, eqb-true}
+use Rattle.std.specs.Prelude.{◌≡◌, refl, List, [], ◌∷◌, ◌++◌, ℕ, suc, ◌-◌, ◌≤◌, eqb, drop}
+use Rattle.std.proofs.Common.{sym, ap, ◌∙◌, arith, eq-eqb, ne_eqb, eqb-true}
 use Rattle.std.proofs.lemmas.Bool.{eqb-false}
 use Rattle.lists.specs.Tests.{by_test}
+use Rattle.meaning.specs.Image.{Posting}
 use Rattle.meaning.specs.ImageFits.{joined}
 use Rattle.meaning.specs.ImageLaws.{Rising}
 use Rattle.cursor.specs.Left.{ahead_of, left_of, block_end}
@@ -45,3 +46,17 @@ left_rising s N c r =
     let k = r.current ne in
     let e : suc (c.past - 1) ≡ c.past = omega arith in
     rw (left_is s c ne) (omega arith, omega arith, k.some_impact, rw e (ahead_rises s N c r.ready)))
+
+-- a list that starts above every document has none
+none_above : (N d : ℕ) (ps : List Posting) → N ≤ d → Rising N d ps → ps ≡ []
+none_above N d [] h r = refl
+none_above N d (p ∷ ps) h r = absurd (omega arith)
+
+-- what is ahead is what is left after the current posting, and at the end of the list none
+pub ahead_after : (s : List ℕ) (N : ℕ) (c : Cursor) → Ready s N c → ahead_of s c ≡ drop 1 (left_of s c)
+ahead_after s N c r =
+    by_test (eqb c.past 4294967295)
+    (λ b.
+    let e = eqb-true c.past 4294967295 b in
+    none_above N c.past (ahead_of s c) (omega (arith, r.few)) (ahead_rises s N c r) ∙ ap (drop 1) (sym (at_end s c e)))
+    (λ b. ahead_left s c (eqb-false c.past 4294967295 b))

@@ -1,5 +1,5 @@
 -- Laws of a list of an accepted image: its directory entry, and the cursor before its first block.
-use Rattle.std.specs.Prelude.{◌≡◌, refl, List, [], ◌∷◌, ℕ, ◌+◌, ◌*◌, ◌≤◌, ◌<◌, length}
+use Rattle.std.specs.Prelude.{◌≡◌, refl, List, [], ◌∷◌, ℕ, ◌+◌, ◌*◌, ◌≤◌, ◌<◌, length, drop}
 use Rattle.std.proofs.Common.{sym, ◌∙◌}
 use native.Mathlib.Omega.{arith}
 use Rattle.meaning.specs.Judged.{good}
@@ -11,10 +11,10 @@ use Rattle.meaning.proofs.AcceptLaws.{image_good}
 use Rattle.meaning.specs.TermLaws.{TermAt}
 use Rattle.meaning.proofs.TermLaws.{term_at}
 use Rattle.meaning.proofs.IndexLaws.{docs_small, bytes_small, list_rises}
-use Rattle.cursor.specs.Left.{ahead_of, term_of}
+use Rattle.cursor.specs.Left.{ahead_of, left_of, term_of}
 use Rattle.cursor.specs.Sound.{Ready}
 use Rattle.cursor.specs.Steps.{start_at}
-use Rattle.cursor.specs.CursorLaws.{ahead_is}
+use Rattle.cursor.specs.CursorLaws.{ahead_is, ahead_after}
 
 good_index : (s : List ℕ) → Accepted s → image_of s ≡ good (index_of s)
 unfolding index_of
@@ -70,3 +70,7 @@ module _ (s : List ℕ) (ok : Accepted s) (t : ℕ) (lt : t < length (index_of s
   pub start_ahead : ahead_of s (start_at s t) ≡ (term_of s t).postings
   unfolding start_ready
   start_ahead = ahead_is s (index_of s).docs (start_at s t) start_ready ∙ blocks_of.postings
+
+  -- which goes on to all of its list
+  pub start_left : drop 1 (left_of s (start_at s t)) ≡ (term_of s t).postings
+  start_left = sym (ahead_after s (index_of s).docs (start_at s t) start_ready) ∙ start_ahead

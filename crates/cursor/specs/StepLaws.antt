@@ -84,6 +84,11 @@ taking s N c r some = go r.row refl
     go [] e = absurd (omega (arith, r.count, ap length e))
     go (p ∷ ps) e = take_first s N c r p ps e
 
+-- the gap, out of that number, leads to a document of the index
+pub taken_small : (s : List ℕ) (N : ℕ) (c : Cursor) → Ready s N c → 0 < c.rest → bits_at s c.at c.step / 2 ^ 8 + c.past + 1 < 16777216
+taken_small s N c r some =
+    omega (arith, ap (λ (d : Cursor). d.past) (taken_fields s c (bits_at s c.at c.step) r.step_least refl), (taking s N c r some).below, r.few)
+
 -- the next block's head is inside the image, and opening it leaves the blocks after this one
 pub record Opening (s : List ℕ) (N : ℕ) (c : Cursor) (r : Ready s N c) : Type 0 where
   pub head : block_end c + 44 ≤ 8 * length s

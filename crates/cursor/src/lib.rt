@@ -5,14 +5,15 @@
 ghost use Rattle.std.specs.Prelude.{◌≡◌, ◌+◌, ◌*◌, ◌-◌, ◌/◌, ◌≤◌, ◌<◌, length, drop};
 ghost use Rattle.meaning.specs.Bits.{bits_at};
 ghost use Rattle.meaning.specs.Image.{index_of, Accepted};
-ghost use Rattle.cursor.specs.Left.{term_of, ahead_of, left_of, not_below};
+ghost use Rattle.cursor.specs.Left.{term_of, left_of, not_below};
 ghost use Rattle.cursor.specs.Sound.{Ready, Sound, StandsFor};
 ghost use Rattle.cursor.specs.Steps.{taken_at, opened_at, ended_at};
 
-// A place in a list, by value: what is left of the list is the current posting and all that follow it.
-#[derive(Clone, Copy)]
+// A place in a list, by value: what is left of the list is the current posting and all that follow it. The image stays outside, and each step
+// is lent it anew: mentions are kept by value, and hold no reference.
+#[derive(Clone, Copy, Default)]
 pub struct Cursor {
-    // the current document plus one; 4294967295 after the last posting
+    // the current document plus one; 4294967295 after the last posting, so that the lowest of several is found with no test for an end
     pub past: u32,
     // the current posting's impact
     pub impact: u32,
@@ -37,6 +38,7 @@ pub struct Opened {
 }
 
 // The n bits from bit `at` of the image on.
+#[tactic(auto, using(bits::specs::Parts::from_field))]
 fn bits_at(image: &[u8], at: u32, n: u32) -> u64
     requires { (n ≤ 57) × (at + n ≤ 8 * length image.now) }
     ensures { result ≡ bits_at image.now at n }
@@ -46,6 +48,7 @@ fn bits_at(image: &[u8], at: u32, n: u32) -> u64
 }
 
 // The n bits from bit `at` on, where eight bytes are there from its byte on.
+#[tactic(auto, using(bits::specs::Parts::from_field))]
 pub fn bits_within(image: &[u8], at: usize, n: usize) -> u64
     requires { (0 < n) × (n ≤ 57) × (at / 8 + 8 ≤ length image.now) }
     ensures { result ≡ bits_at image.now at n }
@@ -53,8 +56,9 @@ pub fn bits_within(image: &[u8], at: usize, n: usize) -> u64
     bits::within(&image[at / 8..], at % 8, n)
 }
 
-// The next posting of the block: its gap and its impact are read as one number.
-fn take_posting(image: &[u8], c: Cursor) -> Cursor
+// The next posting, in a block that has one: its gap and its impact are read as one number.
+#[tactic(auto, using(crate::specs::StepLaws::taken_fields, crate::specs::StepLaws::taking))]
+pub fn take_next(image: &[u8], c: Cursor) -> Cursor
     requires { Ready image.now (index_of image.now).docs c × (0 < c.rest) }
     ensures { result ≡ taken_at image.now c }
 {
@@ -63,16 +67,15 @@ fn take_posting(image: &[u8], c: Cursor) -> Cursor
     let impact = (x % 256) as u32;
     Cursor {
         past: c.past + gap + 1,
-        impact: impact,
+        impact,
         at: c.at + c.step,
         rest: c.rest - 1,
-        left: c.left,
-        step: c.step,
-        last: c.last,
+        ..c
     }
 }
 
 // Before the first posting of the next block, past what is left of this one.
+#[tactic(auto, using(crate::specs::StepLaws::opening, layout::specs::FieldsLaws::head_from, layout::specs::FieldsLaws::head_bounds))]
 fn open_block(image: &[u8], c: Cursor) -> Cursor
     requires { Ready image.now (index_of image.now).docs c × (0 < c.left) }
     ensures { result ≡ opened_at image.now c }
@@ -83,12 +86,12 @@ fn open_block(image: &[u8], c: Cursor) -> Cursor
     let n = head.count as u32;
     Cursor {
         past: c.last,
-        impact: c.impact,
         at: at + 44,
         rest: n,
         left: c.left - n,
         step: head.width as u32 + 8,
         last: head.last as u32 + 1,
+        ..c
     }
 }
 
@@ -99,26 +102,26 @@ fn end_list(c: Cursor) -> Cursor
     Cursor {
         past: 4294967295,
         impact: 0,
-        at: c.at,
         rest: 0,
         left: 0,
-        step: c.step,
         last: 4294967295,
+        ..c
     }
 }
 
-// The first posting of the next block, or the end, where this block is read out.
-fn enter_block(image: &[u8], c: Cursor) -> Cursor
+// The next posting, in a block that has none: the next block's first, or the end.
+pub fn turn_block(image: &[u8], c: Cursor) -> Cursor
     requires { Ready image.now (index_of image.now).docs c × (c.rest ≡ 0) }
-    ensures { StandsFor image.now result (ahead_of image.now c) }
+    ensures { StandsFor image.now result (drop 1 (left_of image.now c)) }
 {
     if c.left == 0 {
         return end_list(c);
     }
-    take_posting(image, open_block(image, c))
+    take_next(image, open_block(image, c))
 }
 
 // The list of a term at its first posting.
+#[tactic(auto, using(layout::specs::FieldsLaws::entry_bounds))]
 pub fn open_list(image: &[u8], term: u32) -> Opened
     requires { Accepted image.now × (term < length (index_of image.now).terms) }
     ensures { Sound image.now (index_of image.now).docs result.cursor
@@ -129,36 +132,16 @@ pub fn open_list(image: &[u8], term: u32) -> Opened
     let entry = layout::read_entry(image, term as usize);
     let count = entry.count as u32;
     let start = Cursor {
-        past: 0,
-        impact: 0,
         at: entry.first as u32,
-        rest: 0,
         left: count,
         step: 8,
-        last: 0,
+        ..Cursor::default()
     };
-    let c = enter_block(image, start);
     Opened {
-        cursor: c,
-        count: count,
+        cursor: turn_block(image, start),
+        count,
         largest: entry.largest as u32,
     }
-}
-
-// The next posting, in a block that has one.
-pub fn take_next(image: &[u8], c: Cursor) -> Cursor
-    requires { Sound image.now (index_of image.now).docs c × (0 < c.rest) }
-    ensures { result ≡ taken_at image.now c }
-{
-    take_posting(image, c)
-}
-
-// The next posting, in a block that has none: the next block's first, or the end.
-pub fn turn_block(image: &[u8], c: Cursor) -> Cursor
-    requires { Sound image.now (index_of image.now).docs c × (c.rest ≡ 0) × (c.past ≡ 4294967295 → ⊥) }
-    ensures { StandsFor image.now result (drop 1 (left_of image.now c)) }
-{
-    enter_block(image, c)
 }
 
 // Past the blocks that end before document past - 1, on their heads alone.
@@ -185,7 +168,7 @@ fn pass_postings(image: &[u8], from: Cursor, past: u32) -> Cursor
 {
     let mut c = from;
     while c.past < past {
-        c = take_posting(image, c);
+        c = take_next(image, c);
     }
     c
 }

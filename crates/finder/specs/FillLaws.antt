@@ -11,8 +11,8 @@ use Rattle.meaning.specs.Call.{answers, needed}
 use Rattle.meaning.proofs.CallLaws.{answers_length}
 use Rattle.sheet.specs.declared.Record.{Record}
 use Rattle.sheet.specs.Record.{Readable, IsRecord, record_of, query_from}
-use Rattle.sheet.specs.QueryLaws.{needed_next, needed_most}
-use Rattle.sheet.specs.Standing.{Standing, standing_first, standing_query, standing_readable, standing_fits, standing_next, standing_more, standing_over}
+use Rattle.sheet.specs.QueryLaws.{sheet_some, needed_next, needed_most}
+use Rattle.sheet.specs.Standing.{Standing, standing_first, standing_query, standing_readable, standing_fits, standing_inside, standing_next, standing_count}
 use Rattle.search.specs.Posed.{Posed}
 use Rattle.finder.specs.Fill.{Fills, Filled}
 
@@ -34,79 +34,93 @@ put_next done before row ys start end e n h =
     (ap (λ (l : List ℕ). done ++ (ys ++ l)) (Post-is start end before h))
 
 -- i queries are answered, and the next one's numbers stand at `at` of the sheet, its stretch at `start` of the row
-pub record Going (s sheet : List ℕ) (qs : List Query) (before row : List ℕ) (at start : ℕ) : Type 0 where
-  pub i : ℕ
-  pub standing : Standing sheet (length (index_of s).terms) qs i at
-  pub begins : start ≡ needed (take i qs)
-  pub holds : row ≡ answers (index_of s) (take i qs) ++ drop start before
+pub record Going (s sheet : List ℕ) (docs : ℕ) (before row : List ℕ) (i at start : ℕ) : Type 0 where
+  pub fills : Fills s sheet docs before
+  pub standing : Standing sheet (length (index_of s).terms) fills.queries i at
+  pub begins : start ≡ needed (take i fills.queries)
+  pub holds : row ≡ answers (index_of s) (take i fills.queries) ++ drop start before
 
 module _ {s sheet : List ℕ} {docs : ℕ} {before : List ℕ} (f : Fills s sheet docs before) where
-  pub going_first : Going s sheet f.queries before before 1 0
+  -- a sheet's first number is there
+  pub fills_some : 0 < length sheet
+  fills_some = sheet_some sheet (length (index_of s).terms) f.queries f.fine
+
+  pub going_first : Going s sheet docs before before 0 1 0
   unfolding needed answers
-  going_first = record { i = 0; standing = standing_first sheet (length (index_of s).terms) f.queries f.fine; begins = refl; holds = refl }
+  going_first = record { fills = f; standing = standing_first sheet (length (index_of s).terms) f.queries f.fine; begins = refl; holds = refl }
 
-  module _ {row : List ℕ} {at start : ℕ} (g : Going s sheet f.queries before row at start) where
-    within : start ≤ length before
-    within = omega (arith, g.begins, needed_most f.queries g.i, f.room)
+module _ {s sheet : List ℕ} {docs : ℕ} {before row : List ℕ} {i at start : ℕ} (g : Going s sheet docs before row i at start) where
+  T : ℕ
+  T = length (index_of s).terms
 
-    done_length : length (answers (index_of s) (take g.i f.queries)) ≡ start
-    done_length = answers_length (index_of s) (take g.i f.queries) ∙ sym g.begins
+  abbrev qs : List Query
+  qs = g.fills.queries
 
-    -- the answer row keeps its length
-    pub going_length : length row ≡ length before
-    going_length = rw g.holds (simp (length-append, length-drop) (omega (arith, done_length, within)))
+  within : start ≤ length before
+  within = omega (arith, g.begins, needed_most qs i, g.fills.room)
 
-    -- where no number of the sheet is left, the row is filled
-    pub going_ends : length sheet ≤ at → Filled s sheet before row
-    going_ends h queries e =
-        let T = length (index_of s).terms in
-        let same : f.queries ≡ queries = good_same (sym f.fine ∙ e) in
-        let whole : take g.i f.queries ≡ f.queries = take_all g.i f.queries (standing_over sheet T f.queries g.i at g.standing h) in
-        let end : start ≡ needed queries = g.begins ∙ ap needed (whole ∙ same) in
-        rw (g.holds, end, whole, same)
+  done_length : length (answers (index_of s) (take i qs)) ≡ start
+  done_length = answers_length (index_of s) (take i qs) ∙ sym g.begins
 
-    module _ (h : at < length sheet) where
-      T : ℕ
-      T = length (index_of s).terms
+  -- the answer row keeps its length
+  pub going_length : length row ≡ length before
+  going_length = rw g.holds (simp (length-append, length-drop) (omega (arith, done_length, within)))
 
-      more : g.i < length f.queries
+  -- after the last query the row is filled
+  pub going_ends : get_or sheet 0 0 ≤ i → Filled s sheet before row
+  unfolding T
+  going_ends h queries e =
+      let count = standing_count sheet T qs i at g.standing in
+      let same : qs ≡ queries = good_same (sym g.fills.fine ∙ e) in
+      let whole : take i qs ≡ qs = take_all i qs (omega arith) in
+      let end : start ≡ needed queries = g.begins ∙ ap needed (whole ∙ same) in
+      rw (g.holds, end, whole, same)
+
+  module _ (h : i < get_or sheet 0 0) where
+    more : i < length qs
+    unfolding T
+    more = omega (arith, standing_count sheet T qs i at g.standing)
+
+    pub going_readable : Readable sheet at
+    unfolding T
+    going_readable = standing_readable sheet T qs i at g.standing more
+
+    module _ (r : Record) (is : IsRecord sheet at r) where
+      -- the record is that of query i
+      here : record_of r ≡ get_or qs i (query_from sheet 0)
       unfolding T
-      more = standing_more sheet T f.queries g.i at g.standing h
+      here = let d = query_from sheet 0 in is.0 T i (get_or qs i d) (standing_query sheet T qs i at g.standing more d)
 
-      pub going_readable : Readable sheet at
+      next : needed (take (i + 1) qs) ≡ start + (3 + 2 * r.k)
+      next =
+          let k : r.k ≡ (get_or qs i (query_from sheet 0)).k = ap (λ (q : Query). q.k) here in
+          omega (arith, needed_next qs i more (query_from sheet 0), g.begins)
+
+      pub going_posed : Posed s r docs
       unfolding T
-      going_readable = standing_readable sheet T f.queries g.i at g.standing more
+      going_posed = record { image = g.fills.image; all = g.fills.all; fits = standing_fits sheet T qs i at g.standing more r is }
 
-      module _ (r : Record) (is : IsRecord sheet at r) where
-        -- the record is that of query i
-        here : record_of sheet r ≡ get_or f.queries g.i (query_from sheet 0)
-        unfolding T
-        here = let d = query_from sheet 0 in is.0 T g.i (get_or f.queries g.i d) (standing_query sheet T f.queries g.i at g.standing more d)
+      -- its numbers are on the sheet
+      pub going_inside : at + 4 + length r.pairs.now ≤ length sheet
+      unfolding T
+      going_inside = standing_inside sheet T qs i at g.standing more r is
 
-        next : needed (take (g.i + 1) f.queries) ≡ start + (3 + 2 * r.k)
-        next =
-            let k : r.k ≡ (get_or f.queries g.i (query_from sheet 0)).k = ap (λ (q : Query). q.k) here in
-            omega (arith, needed_next f.queries g.i more (query_from sheet 0), g.begins)
+      -- its stretch is within the row
+      pub going_room : start + (3 + 2 * r.k) ≤ length row
+      going_room = omega (arith, next, needed_most qs (i + 1), g.fills.room, going_length)
 
-        pub going_posed : Posed s sheet r docs
-        unfolding T
-        going_posed = record { image = f.image; all = f.all; fits = standing_fits sheet T f.queries g.i at g.standing more r is }
-
-        -- its stretch is within the row
-        pub going_room : start + (3 + 2 * r.k) ≤ length before
-        going_room = omega (arith, next, needed_most f.queries (g.i + 1), f.room)
-
-        -- the stretch filled with its answer
-        pub going_next : (end : ℕ) → end ≡ start + 3 + 2 * r.k → (ys : List ℕ) → ys ≡ answer (index_of s) (record_of sheet r) →
-            Going s sheet f.queries before (put_mid start (end - start) row ys) (r.pairs + 2 * r.q) end
-        unfolding T
-        going_next end e ys a =
-            let d = query_from sheet 0 in
-            let done = answers (index_of s) (take g.i f.queries) in
-            record {
-              i = g.i + 1;
-              standing = standing_next sheet T f.queries g.i at g.standing more r is;
-              begins = omega (arith, next);
-              holds = put_next done before row ys start end g.holds done_length (omega arith)
-                  ∙ rw (answers_next (index_of s) f.queries g.i more d, a, here);
-            }
+      -- the stretch filled with its answer
+      pub going_next : (past end : ℕ) → past ≡ at + (4 + length r.pairs.now) → end ≡ start + 3 + 2 * r.k → (ys : List ℕ) → ys ≡ answer (index_of s) (record_of r) →
+          Going s sheet docs before (put_mid start (end - start) row ys) (i + 1) past end
+      unfolding T
+      going_next past end p e ys a =
+          let d = query_from sheet 0 in
+          let done = answers (index_of s) (take i qs) in
+          let same : past ≡ at + 4 + length r.pairs.now = omega arith in
+          record {
+            fills = g.fills;
+            standing = rw same (standing_next sheet T qs i at g.standing more r is);
+            begins = omega (arith, next);
+            holds = put_next done before row ys start end g.holds done_length (omega arith)
+                ∙ rw (answers_next (index_of s) qs i more d, a, here);
+          }

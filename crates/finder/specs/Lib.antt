@@ -1,5 +1,6 @@
 pub mod Code
 pub mod CodeLaws
+pub mod Answered
 pub mod Fill
 pub mod FillLaws
 pub mod PromiseLaws

@@ -1,9 +1,11 @@
 -- What the image's judgement, then the sheet's, then the room say of the whole call: "The first fault found is the one given".
-use Rattle.std.specs.Prelude.{◌≡◌, Bool, true, false, List, ◌++◌, ℕ, ◌≤◌, leb, length}
+use Rattle.std.specs.Prelude.{Result, Ok, Err, IsErrAnd, ◌≡◌, Bool, true, false, List, ◌++◌, ℕ, ◌≤◌, leb, length}
 use Rattle.std.proofs.Math.Path.{sym, ap}
 use Rattle.std.proofs.Common.{◌∙◌, arith, leb-true}
 use Rattle.std.proofs.Math.ListN.{drop}
 use Rattle.meaning.specs.declared.Outcome.TheVariants.{Done, Refused}
+use Rattle.meaning.specs.declared.Refusal.{Refusal}
+use Rattle.meaning.specs.Refusals.{fault_number}
 use Rattle.meaning.specs.Judged.{Judged, good, bad, ◌>>=◌, need}
 use Rattle.meaning.specs.JudgedLaws.{bind_good, need_good, good_same}
 use Rattle.meaning.specs.Image.{Index, image_of, index_of, Accepted}
@@ -18,6 +20,7 @@ use Rattle.meaning.proofs.FaultLaws.{image_first}
 use Rattle.meaning.specs.Promise.{Promise}
 use Rattle.sheet.specs.Verdict.{needed_of, roomed}
 use Rattle.sheet.specs.QueryLaws.{needed_good}
+use Rattle.finder.specs.Answered.{Answered}
 use Rattle.finder.specs.Fill.{Fills, Filled}
 
 -- where the sheet's reading and the room give a fault, so do they before the answers
@@ -53,6 +56,18 @@ module _ (image sheet row : List ℕ) where
 
   pub image_refused : (number place : ℕ) → image_of image ≡ bad number place → Promise image sheet row (Refused number place) row
   image_refused number place e = refusal number place (image_first image sheet row number place e)
+
+  -- a result of which the outcome is promised
+  pub refused_answered :
+      (r : Result ℕ Refusal) (f : Refusal) (after : List ℕ) → IsErrAnd r (λ g. g ≡ f) → Promise image sheet row (Refused (fault_number f.fault) f.place) after →
+      Answered image sheet row r after
+  unfolding says
+  refused_answered (Ok count) f after e p = absurd e
+  refused_answered (Err g) f after e p = rw e (record { said_is = p.outcome_is; row_is = p.row_is })
+
+  pub done_answered : (count : ℕ) (after : List ℕ) → Promise image sheet row (Done count) after → Answered image sheet row (Ok count) after
+  unfolding says
+  done_answered count after p = record { said_is = p.outcome_is; row_is = p.row_is }
 
   -- the sheet and the room, on an accepted image
   module _ (a : Accepted image) (T docs : ℕ) (terms : length (index_of image).terms ≡ T) (all : docs ≡ (index_of image).docs) where

@@ -5,11 +5,12 @@
 ghost use Rattle.std.specs.Prelude.{◌≡◌};
 ghost use Rattle.meaning.specs.Call.{says};
 ghost use Rattle.meaning.specs.Promise.{Promise};
+ghost use Rattle.finder.specs.Answered.{Answered};
 ghost use Rattle.finder.specs.Code.{code_of, Exported};
 ghost use Rattle.finder.specs.CodeLaws.{Small};
 ghost use Rattle.finder.specs.Fill.{Fills, Filled};
 
-use meaning::Outcome;
+use meaning::{Outcome, Refusal};
 
 // Each query of an accepted sheet is lent its own stretch of the answer row, which starts where the previous one ended.
 fn fill(image: &[u8], sheet: &[u32], docs: u32, row: &mut [u32])
@@ -18,44 +19,42 @@ fn fill(image: &[u8], sheet: &[u32], docs: u32, row: &mut [u32])
 {
     let mut at: usize = 1;
     let mut start: usize = 0;
-    while at < sheet.len() {
+    for _ in 0..sheet[0] {
         let query = sheet::read(sheet, at);
         let end = start + 3 + 2 * query.k;
-        search::answer_query(image, sheet, query, docs, &mut row[start..end]);
+        search::answer_query(image, query, docs, &mut row[start..end]);
         start = end;
-        at = query.pairs + 2 * query.q;
+        at += 4 + query.pairs.len();
     }
+}
+
+// The image's refusals come first, then the sheet's, and "15 is last".
+fn answered(image: &[u8], sheet: &[u32], row: &mut [u32]) -> Result<usize, Refusal>
+    ensures { Answered image.now sheet.now row.old result row.new }
+{
+    let sizes = image::judge(image)?;
+    let count = sheet::room(sheet::judge(sheet, sizes.terms), row.len())?;
+    fill(image, sheet, sizes.docs, row);
+    Ok(count)
 }
 
 // Answers every query of a sheet on an image, both any at all: "either done with the count of numbers filled, or refused with a number and a
-// place". The image's refusals come first, then the sheet's, and "15 is last".
+// place".
 pub fn answer(image: &[u8], sheet: &[u32], row: &mut [u32]) -> Outcome
     ensures { Promise image.now sheet.now row.old result row.new }
 {
-    let index = image::judge(image);
-    match index {
-        image::Verdict::Refused(number, place) => Outcome::Refused(number, place),
-        image::Verdict::Accepted(terms, docs) => {
-            let asked = sheet::room(sheet::judge(sheet, terms), row.len());
-            match asked {
-                sheet::Verdict::Refused(number, place) => Outcome::Refused(number, place),
-                sheet::Verdict::Accepted(count) => {
-                    fill(image, sheet, docs, row);
-                    Outcome::Done(count)
-                }
-            }
-        }
-    }
+    Outcome::from(answered(image, sheet, row))
 }
 
 // An outcome as one number: 0 for done or the refusal's number, times 2^56, and the count or the place.
+#[tactic(auto, unfolding(meaning::specs::Call::says, crate::specs::Code::code_of))]
 fn code(said: Outcome) -> u64
     requires { Small (says said) }
     ensures { result ≡ code_of (says said) }
 {
     match said {
         Outcome::Done(count) => count as u64,
-        Outcome::Refused(number, place) => number as u64 * 72057594037927936 + place as u64,
+        Outcome::Refused(number, place) => u64::from(number) * 72057594037927936 + place as u64,
     }
 }
 

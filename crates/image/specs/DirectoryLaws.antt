@@ -1,11 +1,13 @@
 -- Laws of the directory: one term a turn.
-use Rattle.std.specs.Prelude.{◌≡◌, refl, Bool, true, false, List, [], ◌∷◌, ℕ, zero, suc, ◌+◌, ◌*◌, ◌≤◌, eqb, length}
-use Rattle.std.proofs.Common.{sym, ap, ◌∙◌, add-one}
+use Rattle.std.specs.Prelude.{◌≡◌, refl, Bool, true, false, List, [], ◌∷◌, ℕ, zero, suc, ◌+◌, ◌-◌, ◌*◌, ◌≤◌, ◌<◌, eqb, length}
+use Rattle.std.proofs.Common.{sym, ap, ◌∙◌, add-one, arith}
+use borrow.Author.Tests.{eq-eqb, ne_eqb}
 use Rattle.meaning.specs.Judged.{Judged, good, bad, ◌>>=◌, need}
 use Rattle.meaning.specs.JudgedLaws.{bind_good, need_good, good_same}
 use Rattle.meaning.specs.Layout.{Entry, entry_at}
 use Rattle.meaning.specs.Image.{Part, Terms, list_of, largest_of, blocks_at, entry_fits, terms_at}
-use Rattle.image.specs.Answers.{keep, Ended, ended_of, stop_of}
+use Rattle.image.specs.declared.list.Ended.{Ended}
+use Rattle.image.specs.Answers.{keep, ended_of, stop_of}
 use Rattle.image.specs.KeepLaws.{keep_then, keep_good}
 use Rattle.image.specs.ListLaws.{blocks_inside}
 
@@ -72,10 +74,33 @@ module _ (s : List ℕ) (N t due : ℕ) where
       (b : Judged Ended) → b ≡ keep ended_of (blocks_at s N t e.count due 0 e.count) → keep stop_of (terms_at s N t due 1) ≡ (b >>= finished t e)
   list_there e q f b r = list_is e q ∙ rw (f, r)
 
+  pub list_fault :
+      (e : Entry) → e ≡ entry_at s t → entry_fits N due e ≡ true →
+      (n p : ℕ) → bad n p ≡ keep ended_of (blocks_at s N t e.count due 0 e.count) → keep stop_of (terms_at s N t due 1) ≡ bad n p
+  list_fault e q f n p r = list_there e q f (bad n p) r
+
+  pub list_untrue :
+      (e : Entry) → e ≡ entry_at s t → entry_fits N due e ≡ true →
+      (l : Ended) → good l ≡ keep ended_of (blocks_at s N t e.count due 0 e.count) → (e.largest ≡ l.largest → ⊥) → keep stop_of (terms_at s N t due 1) ≡ bad 7 t
+  list_untrue e q f l r n = list_there e q f (good l) r ∙ rw (ne_eqb e.largest l.largest n)
+
+  pub list_good :
+      (e : Entry) → e ≡ entry_at s t → entry_fits N due e ≡ true →
+      (l : Ended) → good l ≡ keep ended_of (blocks_at s N t e.count due 0 e.count) → e.largest ≡ l.largest → keep stop_of (terms_at s N t due 1) ≡ good l.stop
+  list_good e q f l r m = list_there e q f (good l) r ∙ rw (eq-eqb e.largest l.largest m)
+
   -- the terms after it, by what b says of it
   pub terms_turn : (n m : ℕ) → n ≡ suc m → (b : Judged ℕ) → b ≡ keep stop_of (terms_at s N t due 1) →
       keep stop_of (terms_at s N t due n) ≡ (b >>= λ stop. keep stop_of (terms_at s N (t + 1) stop m))
   terms_turn n m e b q = rw (e, add-one t, q ∙ list_is (entry_at s t) refl) (terms_first m)
+
+  pub terms_fault : (n p q : ℕ) → 0 < n → bad p q ≡ keep stop_of (terms_at s N t due 1) → keep stop_of (terms_at s N t due n) ≡ bad p q
+  terms_fault n p q h e = terms_turn n (n - 1) (omega arith) (bad p q) e
+
+  pub terms_good :
+      (n m stop : ℕ) → n ≡ m + 1 → good stop ≡ keep stop_of (terms_at s N t due 1) →
+      keep stop_of (terms_at s N t due n) ≡ keep stop_of (terms_at s N (t + 1) stop m)
+  terms_good n m stop k e = terms_turn n m (omega arith) (good stop) e
 
   pub terms_end : (n : ℕ) → n ≡ 0 → keep stop_of (terms_at s N t due n) ≡ good due
   unfolding terms_at

@@ -1,7 +1,7 @@
 -- Postings that are fair as they were weighed together are read with no fault: what is kept of them, by sums over their numbers.
 use Prim.Native.Nat.{ℕ, zero, suc, ◌+◌, ◌*◌, ◌/◌, ◌%◌, ◌≤◌, ◌<◌}
-use Rattle.std.specs.Prelude.{◌≡◌, refl, List, [], ◌∷◌, leb}
-use Rattle.std.proofs.Common.{sym, ◌∙◌}
+use Rattle.std.specs.Prelude.{◌≡◌, refl, Bool, true, List, [], ◌∷◌, leb}
+use Rattle.std.proofs.Common.{sym, ◌∙◌, true≢false}
 use Rattle.std.proofs.Math.Path.{ap}
 use native.Mathlib.Omega.{arith}
 use borrow.Author.Tests.{lt-ltb, leb-true, leb-false}
@@ -75,12 +75,12 @@ module _ (s : List ℕ) (N t w L : ℕ) where
 
   -- the same, as the words of the postings were weighed
   pub words_fair :
-      (i next n k : ℕ) (row : List ℕ) (count gaps bad hit : ℕ) → 0 < n → Filled s (w + 8) k i n row count → Weighs w k L row count gaps bad hit →
-      bad ≡ 0 → (hit ≡ 0 → ⊥) → next + gaps + n ≤ N →
+      (i next n k : ℕ) (row : List ℕ) (count gaps : ℕ) (all one : Bool) → 0 < n → Filled s (w + 8) k i n row count → Weighs w k L row count gaps all one →
+      all ≡ true → one ≡ true → next + gaps + n ≤ N →
       good (record { next = next + gaps + n; largest = L }) ≡ keep (kept_of next) (postings_at s N t w i next n)
-  words_fair i next n k row count gaps bad hit some x y b h low =
+  words_fair i next n k row count gaps all one some x y b h low =
       let reach = sum_at (reach_of L) s (w + 8) i n + x.pad * reach_of L 1 in
-      let not : reach ≡ 0 → ⊥ = λ z. h (y.reached (x.sums (reach_of L) ∙ z)) in
+      let not : reach ≡ 0 → ⊥ = λ z. true≢false (sym h ∙ y.reached (x.sums (reach_of L) ∙ z)) in
       sym
       (postings_fair i next n x.pad gaps some (sym (x.sums (fault_of L)) ∙ y.fair b) (positive reach not)
       (y.sum ∙ x.sums gap_of) low)

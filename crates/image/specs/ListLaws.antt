@@ -2,7 +2,7 @@
 use Rattle.std.proofs.Math.Path.{◌≡◌, ap}
 use Rattle.std.specs.Prelude.{refl, ◌&&◌, List, ◌++◌, ltb}
 use Rattle.std.proofs.Common.{sym, ◌∙◌}
-use Prim.Native.Nat.{ℕ, zero, suc, ◌+◌, ◌-◌, ◌*◌, ◌≤◌, ◌<◌, max}
+use Prim.Native.Nat.{ℕ, zero, suc, ◌+◌, ◌-◌, ◌*◌, ◌/◌, ◌%◌, ◌≤◌, ◌<◌, max}
 use native.Mathlib.Omega.{arith}
 use Rattle.std.proofs.Math.Dec.{leb, eqb}
 use Rattle.std.proofs.Math.ListN.{length}
@@ -14,8 +14,12 @@ use Rattle.meaning.specs.JudgedLaws.{bind_good, need_good, good_same}
 use Rattle.meaning.specs.Layout.{head_at, size_of}
 use Rattle.meaning.specs.Image.{Posting, Part, block_of, and_then, next_of, largest_of, postings_at, block_at, blocks_at}
 use Rattle.meaning.proofs.ImageLaws.{largest_append, blocks_fuel}
-use Rattle.image.specs.Answers.{keep, Taken, taken_of, Ended, ended_of}
+use Rattle.image.specs.declared.block.Taken.{Taken}
+use Rattle.image.specs.declared.list.Ended.{Ended}
+use Rattle.image.specs.Answers.{keep, taken_of, ended_of}
 use Rattle.image.specs.KeepLaws.{keep_same, keep_then, keep_good}
+use Rattle.bits.specs.Parts.{from}
+use Rattle.image.specs.PartLaws.{block_part}
 use Rattle.image.specs.BlockLaws.{postings_count}
 
 -- what is kept where `top` is the largest impact before
@@ -128,6 +132,25 @@ module _ (s : List ℕ) (N t i next left : ℕ) where
       keep_same (blocks_at s N t left i next left) (ended_from 0) ended_of
       (λ b. let e : max 0 (largest_of b.postings) ≡ largest_of b.postings = omega arith in rw e)
 
+-- the block at bit i by its own part: what it takes, and the list by its fault or by what comes after it
+module _ (s : List ℕ) (N t i next left : ℕ) (p : List ℕ) (M : ℕ) (part : p ≡ from (i / 8) s) (docs : M ≡ N) (inside : i ≤ 8 * length s) where
+  whole : keep (taken_of (i % 8) next) (block_at p M t (i % 8) next left) ≡ keep (taken_of i next) (block_at s N t i next left)
+  whole = rw (part, docs) (block_part s N t i next left inside)
+
+  pub part_fits : (k : Taken) → next ≤ N → good k ≡ keep (taken_of (i % 8) next) (block_at p M t (i % 8) next left) → Fits s N i left k
+  part_fits k h e = block_fits s N t i next left k h (e ∙ whole)
+
+  pub part_fault :
+      (top n q : ℕ) → 0 < left → bad n q ≡ keep (taken_of (i % 8) next) (block_at p M t (i % 8) next left) →
+      keep (ended_from top) (blocks_at s N t left i next left) ≡ bad n q
+  part_fault top n q h e = blocks_turn s N t i next left top h (bad n q) (e ∙ whole)
+
+  pub part_good :
+      (top : ℕ) (k : Taken) → 0 < left → good k ≡ keep (taken_of (i % 8) next) (block_at p M t (i % 8) next left) →
+      keep (ended_from top) (blocks_at s N t left i next left)
+      ≡ keep (ended_from (max top k.largest)) (blocks_at s N t (left - k.postings) (i + k.bits) k.next (left - k.postings))
+  part_good top k h e = blocks_turn s N t i next left top h (good k) (e ∙ whole)
+
 -- good blocks end inside the image
 pub blocks_inside : (s : List ℕ) (N t f i next left : ℕ) (b : Part) → i ≤ 8 * length s → blocks_at s N t f i next left ≡ good b → b.stop ≤ 8 * length s
 unfolding blocks_at
@@ -147,3 +170,6 @@ blocks_inside s N t (suc f) i next left b h e = go (λ i next left b h e. blocks
         let stop = p.stop in
         let same : ◌≡◌ {A = Part} (and_then k y.0) b = good_same y.2 in
         rw (← same) (r k.stop (next_of k.postings next) l y.0 (omega arith) y.1))
+
+-- a list's first block, and its end
+pub ruleset list_ends = (blocks_start, blocks_end)

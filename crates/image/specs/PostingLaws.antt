@@ -2,15 +2,17 @@
 use Rattle.std.specs.Prelude.{◌≡◌, ◌&&◌, List, ◌∷◌}
 use Rattle.std.proofs.Math.Path.{sym}
 use Rattle.std.proofs.Common.{◌∙◌, suc-mul}
-use Prim.Native.Nat.{ℕ, zero, suc, ◌+◌, ◌-◌, ◌*◌, ◌/◌, ◌%◌, ◌<◌, max}
+use Prim.Native.Nat.{ℕ, zero, suc, ◌+◌, ◌-◌, ◌*◌, ◌/◌, ◌%◌, ◌≤◌, ◌<◌, max}
 use Rattle.std.proofs.Math.Numerals.{add-one}
 use native.Mathlib.Omega.{arith}
 use Rattle.std.proofs.Math.Dec.{ltb}
 use Rattle.meaning.specs.Bits.{bits_at}
-use Rattle.meaning.specs.Judged.{good, ◌>>=◌, need}
+use borrow.Author.Tests.{lt-ltb, le-ltb}
+use Rattle.meaning.specs.Judged.{good, bad, ◌>>=◌, need}
 use Rattle.meaning.specs.Image.{Posting, next_of, largest_of, postings_at}
 use Rattle.bits.specs.BitsSplit.{bits_first, bits_second}
-use Rattle.image.specs.Answers.{keep, Kept, kept_of}
+use Rattle.image.specs.declared.postings.Kept.{Kept}
+use Rattle.image.specs.Answers.{keep, kept_of}
 use Rattle.image.specs.KeepLaws.{keep_same, keep_then, keep_need}
 
 -- what is kept where `top` is the largest impact before
@@ -56,3 +58,22 @@ module _ (s : List ℕ) (N t w i next : ℕ) where
       (keep_then rest (λ ps. p ∷ ps) (kept_from top next)
       ∙ keep_same rest _ (kept_from (max top a) (suc d))
       (λ ps. let m : max top (max a (largest_of ps)) ≡ max (max top a) (largest_of ps) = omega arith in rw m)))
+
+  -- its fault, or what is kept after it
+  pub posting_past : (x top n : ℕ) → x ≡ bits_at s i (w + 8) → 0 < n → N ≤ next + x / 256 → keep (kept_from top next) (postings_at s N t w i next n) ≡ bad 6 t
+  posting_past x top n e h p = postings_turn x top n e h ∙ rw (le-ltb (next + x / 256) N p)
+
+  pub posting_none : (x top n : ℕ) → x ≡ bits_at s i (w + 8) → 0 < n → next + x / 256 < N → x % 256 ≡ 0 → keep (kept_from top next) (postings_at s N t w i next n) ≡ bad 6 t
+  posting_none x top n e h p z = postings_turn x top n e h ∙ rw (lt-ltb (next + x / 256) N p, z)
+
+  pub posting_good :
+      (x top n j m : ℕ) → x ≡ bits_at s i (w + 8) → n ≡ m + 1 → j ≡ i + (w + 8) → next + x / 256 < N → 0 < x % 256 →
+      keep (kept_from top next) (postings_at s N t w i next n)
+      ≡ keep (kept_from (max top (x % 256)) (next + x / 256 + 1)) (postings_at s N t w j (next + x / 256 + 1) m)
+  posting_good x top n j m e k q p a =
+      let at : i + w + 8 ≡ j = omega arith in
+      let less : n - 1 ≡ m = omega arith in
+      postings_turn x top n e (omega arith) ∙ rw (lt-ltb (next + x / 256) N p, lt-ltb 0 (x % 256) a, at, less)
+
+-- from the first posting on: a fault, the next, the end
+pub ruleset posting_steps = (postings_start, posting_past, posting_none, posting_good, postings_end)

@@ -1,42 +1,42 @@
 // "A list is a row of blocks", the next at the bit after the one before, "in the middle of a byte or not".
-ghost use Rattle.std.specs.Prelude.{◌≡◌, ℕ, ◌*◌, ◌≤◌, ◌<◌, length};
+ghost use Rattle.std.specs.Prelude.{◌≡◌, ℕ, ◌*◌, ◌≤◌, length};
 ghost use Rattle.meaning.specs.Image.{blocks_at};
-ghost use Rattle.image.specs.Answers.{keep, ended_of, blocks_say};
+ghost use Rattle.meaning.specs.Refusals.{told_at};
+ghost use Rattle.image.specs.Answers.{keep, ended_of};
 
-use super::block::{Block, judge_block, larger};
+use super::block::judge_block;
+use super::part::Part;
+use meaning::Fault;
 
-// What judging the blocks of a list says.
+// What is kept of a list: the bit after it, and its largest impact.
 #[derive(Clone, Copy)]
-pub enum Blocks {
-    // the refusal's number
-    Wrong(u32),
-    // the bit after the list, and its largest impact
-    Good(usize, u64),
+pub struct Ended {
+    pub stop: usize,
+    pub largest: u64,
 }
 
 // The blocks of `count` postings from bit `start` on.
-pub fn judge_blocks(image: &[u8], docs: u64, start: usize, count: usize, room: &mut [u64]) -> Blocks
-    requires { (docs < 16777216) × (length image.now < 16777216) × (start ≤ 8 * length image.now) × (length room.old ≡ 128) }
-    ensures { (t : ℕ) → blocks_say t result ≡ keep ended_of (blocks_at image.now docs t count start 0 count) }
+#[tactic(auto, using(crate::specs::ListLaws::list_ends))]
+pub fn judge_blocks(
+    image: Part,
+    start: usize,
+    count: usize,
+    room: &mut [u64; 128],
+) -> Result<Ended, Fault>
+    requires { start ≤ 8 * length image.bytes.now }
+    ensures { (t : ℕ) → told_at t result ≡ keep ended_of (blocks_at image.entry.bytes.now image.entry.docs t count start 0 count) }
 {
     let mut bit = start;
     let mut next: u64 = 0;
     let mut left = count;
-    let mut top: u64 = 0;
+    let mut largest: u64 = 0;
+    // A `while`, since each block takes postings of its own number.
     while 0 < left {
-        let byte = bit / 8;
-        let found = judge_block(&image[byte..], docs, bit % 8, next, left, room);
-        match found {
-            Block::Wrong(number) => {
-                return Blocks::Wrong(number);
-            }
-            Block::Good(size, postings, after, largest) => {
-                bit += size;
-                next = after;
-                left -= postings;
-                top = larger(top, largest);
-            }
-        }
+        let block = judge_block(image.cut(bit), bit % 8, next, left, room)?;
+        bit += block.bits;
+        next = block.next;
+        left -= block.postings;
+        largest = largest.max(block.largest);
     }
-    Blocks::Good(bit, top)
+    Ok(Ended { stop: bit, largest })
 }

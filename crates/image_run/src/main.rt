@@ -4,50 +4,43 @@
 
 use std::io;
 
-fn say(rt: &impl Print, name: &[u8], bytes: &[u8]) -> io::Result<()> {
-    report::text(rt, name)?;
-    let verdict = image::judge(bytes);
-    match verdict {
-        image::Verdict::Refused(number, place) => report::refused(rt, number, place)?,
-        image::Verdict::Accepted(terms, docs) => {
-            report::text(rt, b": accepted")?;
-            report::count(rt, terms)?;
-            report::number(rt, docs)?;
-        }
+fn say(rt: &impl Print, name: &str, bytes: &[u8]) -> io::Result<()> {
+    match image::judge(bytes) {
+        Ok(sizes) => println!(rt; "{name}: accepted {} {}", sizes.terms, sizes.docs),
+        Err(refusal) => println!(rt; "{name}: {refusal}"),
     }
-    report::text(rt, b"\n")
 }
 
 // Refusal 1, and images with no terms.
 fn sizes(rt: &impl Print) -> io::Result<()> {
     // under 8 bytes
-    say(rt, b"no bytes", b"")?;
+    say(rt, "no bytes", b"")?;
     // under 8 bytes
-    say(rt, b"7 bytes", b"\x10\x00\x00\x00\x00\x00\x00")?;
+    say(rt, "7 bytes", b"\x10\x00\x00\x00\x00\x00\x00")?;
     // T = 0 and N = 0, the length is right, and no bit is left
-    say(rt, b"8 bytes", b"\x10\x00\x00\x00\x00\x00\x00\x08")?;
+    say(rt, "8 bytes", b"\x10\x00\x00\x00\x00\x00\x00\x08")?;
     // T = 0, N = 2^24 - 1
-    say(rt, b"most documents", b"\x10\x00\xff\xff\xff\x00\x00\x08")
+    say(rt, "most documents", b"\x10\x00\xff\xff\xff\x00\x00\x08")
 }
 
 // Refusals 2 and 3.
 fn headers(rt: &impl Print) -> io::Result<()> {
     // the version is not 1
-    say(rt, b"version 2", b"\x20\x00\x00\x00\x00\x00\x00\x08")?;
+    say(rt, "version 2", b"\x20\x00\x00\x00\x00\x00\x00\x08")?;
     // 2 comes before 3
     say(
         rt,
-        b"version 2, length 9",
+        "version 2, length 9",
         b"\x20\x00\x00\x00\x00\x00\x00\x09",
     )?;
     // the length field is one too small
-    say(rt, b"length 7 for 8", b"\x10\x00\x00\x00\x00\x00\x00\x07")?;
+    say(rt, "length 7 for 8", b"\x10\x00\x00\x00\x00\x00\x00\x07")?;
     // the length field is one too great
-    say(rt, b"length 9 for 8", b"\x10\x00\x00\x00\x00\x00\x00\x09")?;
+    say(rt, "length 9 for 8", b"\x10\x00\x00\x00\x00\x00\x00\x09")?;
     // 8 + 8T is 16, which exceeds 15
     say(
         rt,
-        b"a term in 15 bytes",
+        "a term in 15 bytes",
         b"\x10\x01\x00\x00\x00\x00\x00\x0f\x00\x00\x00\x00\x00\x00\x00",
     )
 }
@@ -57,31 +50,31 @@ fn empty_lists(rt: &impl Print) -> io::Result<()> {
     // 8 + 8T is 16, and the one list is empty
     say(
         rt,
-        b"a term in 16 bytes",
+        "a term in 16 bytes",
         b"\x10\x01\x00\x00\x00\x00\x00\x10\x00\x00\x00\x00\x00\x00\x00\x00",
     )?;
     // postings 0 with another field not 0
     say(
         rt,
-        b"empty, largest 1",
+        "empty, largest 1",
         b"\x10\x01\x00\x00\x00\x00\x00\x10\x00\x00\x00\x00\x00\x00\x00\x01",
     )?;
     // postings 0 with another field not 0
     say(
         rt,
-        b"empty, first bit 128",
+        "empty, first bit 128",
         b"\x10\x01\x00\x00\x00\x00\x00\x10\x00\x00\x00\x80\x00\x00\x00\x00",
     )?;
     // the fault is at term 1
     say(
         rt,
-        b"second term empty, largest 1",
+        "second term empty, largest 1",
         b"\x10\x02\x00\x00\x00\x00\x00\x18\x00\x00\x00\x00\x00\x00\x00\x00\x00\x00\x00\x00\x00\x00\x00\x01",
     )?;
     // the list is due at bit 64 + 64 * 3 = 256
     say(
         rt,
-        b"empty, list, empty",
+        "empty, list, empty",
         b"\x10\x03\x00\x00\x0a\x00\x00\x29\x00\x00\x00\x00\x00\x00\x00\x00\x00\x00\x01\x00\x00\x00\x02\x09\x00\x00\x00\x00\x00\x00\x00\x00\x02\x30\x90\x00\x00\x74\x0b\x02\x40",
     )
 }
@@ -91,19 +84,19 @@ fn entries(rt: &impl Print) -> io::Result<()> {
     // postings above N
     say(
         rt,
-        b"2 postings, N = 1",
+        "2 postings, N = 1",
         b"\x10\x01\x00\x00\x01\x00\x00\x19\x00\x00\x00\x80\x00\x00\x02\x09\x02\x30\x90\x00\x00\x74\x0b\x02\x40",
     )?;
     // the list is due at bit 128
     say(
         rt,
-        b"first bit 127",
+        "first bit 127",
         b"\x10\x01\x00\x00\x0a\x00\x00\x19\x00\x00\x00\x7f\x00\x00\x02\x09\x02\x30\x90\x00\x00\x74\x0b\x02\x40",
     )?;
     // the list is due at bit 128
     say(
         rt,
-        b"first bit 129",
+        "first bit 129",
         b"\x10\x01\x00\x00\x0a\x00\x00\x19\x00\x00\x00\x81\x00\x00\x02\x09\x02\x30\x90\x00\x00\x74\x0b\x02\x40",
     )
 }
@@ -113,31 +106,31 @@ fn cut_blocks(rt: &impl Print) -> io::Result<()> {
     // blocks of 53 and 52 bits, from 128 and 181; 7 bits are left of 240
     say(
         rt,
-        b"head inside",
+        "head inside",
         b"\x10\x01\x00\x00\x02\x00\x00\x1e\x00\x00\x00\x80\x00\x00\x02\x01\x00\x10\x10\x00\x00\x00\x08\x00\x00\x80\x00\x00\x80\x80",
     )?;
     // the second head takes 44 bits from 181; the image ends at 224
     say(
         rt,
-        b"head cut by a bit",
+        "head cut by a bit",
         b"\x10\x01\x00\x00\x02\x00\x00\x1c\x00\x00\x00\x80\x00\x00\x02\x01\x00\x10\x10\x00\x00\x00\x08\x00\x00\x80\x00\x00",
     )?;
     // 57 bits from 128; 7 bits are left of 192
     say(
         rt,
-        b"body inside",
+        "body inside",
         b"\x10\x01\x00\x00\x01\x00\x00\x18\x00\x00\x00\x80\x00\x00\x01\x01\x00\x50\x10\x00\x00\x00\x00\x80",
     )?;
     // 57 bits from 128 end at 185; the image ends at 184
     say(
         rt,
-        b"body cut by a bit",
+        "body cut by a bit",
         b"\x10\x01\x00\x00\x01\x00\x00\x17\x00\x00\x00\x80\x00\x00\x01\x01\x00\x50\x10\x00\x00\x00\x00",
     )?;
     // 60 bits from 128; the image ends at 184. 5 comes before 6
     say(
         rt,
-        b"body cut, impact 0",
+        "body cut, impact 0",
         b"\x10\x01\x00\x00\x02\x00\x00\x17\x00\x00\x00\x80\x00\x00\x02\x01\x02\x00\x10\x00\x00\x10\x00",
     )
 }
@@ -147,19 +140,19 @@ fn heads(rt: &impl Print) -> io::Result<()> {
     // document 2^24 - 2, below N = 2^24 - 1
     say(
         rt,
-        b"w = 24",
+        "w = 24",
         b"\x10\x01\xff\xff\xff\x00\x00\x1a\x00\x00\x00\x80\x00\x00\x01\x01\x01\x80\x1f\xff\xff\xef\xff\xff\xe0\x10",
     )?;
     // w above 24, though the block is inside the image
     say(
         rt,
-        b"w = 25",
+        "w = 25",
         b"\x10\x01\x00\x00\x01\x00\x00\x1a\x00\x00\x00\x80\x00\x00\x01\x01\x01\x90\x10\x00\x00\x00\x00\x00\x00\x08",
     )?;
     // the block has 2 postings and the list 1
     say(
         rt,
-        b"2 postings of 1",
+        "2 postings of 1",
         b"\x10\x01\x00\x00\x0a\x00\x00\x19\x00\x00\x00\x80\x00\x00\x01\x09\x02\x30\x90\x00\x00\x74\x0b\x02\x40",
     )
 }
@@ -169,31 +162,31 @@ fn postings(rt: &impl Print) -> io::Result<()> {
     // document 7 is below N
     say(
         rt,
-        b"N = 8",
+        "N = 8",
         b"\x10\x01\x00\x00\x08\x00\x00\x19\x00\x00\x00\x80\x00\x00\x02\x09\x02\x30\x90\x00\x00\x74\x0b\x02\x40",
     )?;
     // document 7 is N
     say(
         rt,
-        b"N = 7",
+        "N = 7",
         b"\x10\x01\x00\x00\x07\x00\x00\x19\x00\x00\x00\x80\x00\x00\x02\x09\x02\x30\x90\x00\x00\x74\x0b\x02\x40",
     )?;
     // 6 comes before 7
     say(
         rt,
-        b"impact 0",
+        "impact 0",
         b"\x10\x01\x00\x00\x0a\x00\x00\x19\x00\x00\x00\x80\x00\x00\x02\x09\x02\x30\x90\x00\x00\x74\x0b\x00\x00",
     )?;
     // the last document is 7
     say(
         rt,
-        b"last document 8",
+        "last document 8",
         b"\x10\x01\x00\x00\x0a\x00\x00\x19\x00\x00\x00\x80\x00\x00\x02\x09\x02\x30\x90\x00\x00\x84\x0b\x02\x40",
     )?;
     // the largest impact is 9
     say(
         rt,
-        b"largest of block 10",
+        "largest of block 10",
         b"\x10\x01\x00\x00\x0a\x00\x00\x19\x00\x00\x00\x80\x00\x00\x02\x09\x02\x30\xa0\x00\x00\x74\x0b\x02\x40",
     )
 }
@@ -203,25 +196,25 @@ fn lists(rt: &impl Print) -> io::Result<()> {
     // P8: the list's largest impact is 9
     say(
         rt,
-        b"largest of list 10",
+        "largest of list 10",
         b"\x10\x01\x00\x00\x0a\x00\x00\x19\x00\x00\x00\x80\x00\x00\x02\x0a\x02\x30\x90\x00\x00\x74\x0b\x02\x40",
     )?;
     // 3, 9 | 10, 20, 21 and 9, 21 | 40: each block goes on from the one before, in the middle of a byte
     say(
         rt,
-        b"two lists of two blocks",
+        "two lists of two blocks",
         b"\x10\x02\x00\x00\x32\x00\x00\x3b\x00\x00\x00\xc0\x00\x00\x05\x07\x00\x00\x01\x56\x00\x00\x03\x06\x02\x50\x50\x00\x00\x91\x82\x94\x08\x11\x01\xc0\x00\x05\x40\x1e\x40\x40\x10\x09\x81\x80\x00\x05\x49\x03\x2c\x18\x01\x40\x40\x00\x0a\x24\x02",
     )?;
     // list 1 has impacts 3, 6 | 1: the largest is 6
     say(
         rt,
-        b"the last block's largest for the list's",
+        "the last block's largest for the list's",
         b"\x10\x02\x00\x00\x32\x00\x00\x3b\x00\x00\x00\xc0\x00\x00\x05\x07\x00\x00\x01\x56\x00\x00\x03\x01\x02\x50\x50\x00\x00\x91\x82\x94\x08\x11\x01\xc0\x00\x05\x40\x1e\x40\x40\x10\x09\x81\x80\x00\x05\x49\x03\x2c\x18\x01\x40\x40\x00\x0a\x24\x02",
     )?;
     // the terms in order
     say(
         rt,
-        b"7 of term 0, 4 of term 1",
+        "7 of term 0, 4 of term 1",
         b"\x10\x02\x00\x00\x0a\x00\x00\x21\x00\x00\x00\xc0\x00\x00\x02\x0a\x00\x00\x00\x00\x00\x00\x00\x01\x02\x30\x90\x00\x00\x74\x0b\x02\x40",
     )
 }
@@ -231,25 +224,25 @@ fn ends(rt: &impl Print) -> io::Result<()> {
     // 180 + 4 = 184 of 184 bits
     say(
         rt,
-        b"w = 0, 4 left",
+        "w = 0, 4 left",
         b"\x10\x01\x00\x00\x01\x00\x00\x17\x00\x00\x00\x80\x00\x00\x01\x01\x00\x00\x10\x00\x00\x00\x10",
     )?;
     // 181 + 3 = 184 of 184 bits
     say(
         rt,
-        b"w = 1, 3 left",
+        "w = 1, 3 left",
         b"\x10\x01\x00\x00\x01\x00\x00\x17\x00\x00\x00\x80\x00\x00\x01\x01\x00\x10\x10\x00\x00\x00\x08",
     )?;
     // 182 + 2 = 184 of 184 bits
     say(
         rt,
-        b"w = 2, 2 left",
+        "w = 2, 2 left",
         b"\x10\x01\x00\x00\x01\x00\x00\x17\x00\x00\x00\x80\x00\x00\x01\x01\x00\x20\x10\x00\x00\x00\x04",
     )?;
     // 183 + 1 = 184 of 184 bits
     say(
         rt,
-        b"w = 3, 1 left",
+        "w = 3, 1 left",
         b"\x10\x01\x00\x00\x01\x00\x00\x17\x00\x00\x00\x80\x00\x00\x01\x01\x00\x30\x10\x00\x00\x00\x02",
     )
 }
@@ -259,25 +252,25 @@ fn more_ends(rt: &impl Print) -> io::Result<()> {
     // 184 + 0 = 184 of 184 bits
     say(
         rt,
-        b"w = 4, 0 left",
+        "w = 4, 0 left",
         b"\x10\x01\x00\x00\x01\x00\x00\x17\x00\x00\x00\x80\x00\x00\x01\x01\x00\x40\x10\x00\x00\x00\x01",
     )?;
     // 185 + 7 = 192 of 192 bits
     say(
         rt,
-        b"w = 5, 7 left",
+        "w = 5, 7 left",
         b"\x10\x01\x00\x00\x01\x00\x00\x18\x00\x00\x00\x80\x00\x00\x01\x01\x00\x50\x10\x00\x00\x00\x00\x80",
     )?;
     // 186 + 6 = 192 of 192 bits
     say(
         rt,
-        b"w = 6, 6 left",
+        "w = 6, 6 left",
         b"\x10\x01\x00\x00\x01\x00\x00\x18\x00\x00\x00\x80\x00\x00\x01\x01\x00\x60\x10\x00\x00\x00\x00\x40",
     )?;
     // 187 + 5 = 192 of 192 bits
     say(
         rt,
-        b"w = 7, 5 left",
+        "w = 7, 5 left",
         b"\x10\x01\x00\x00\x01\x00\x00\x18\x00\x00\x00\x80\x00\x00\x01\x01\x00\x70\x10\x00\x00\x00\x00\x20",
     )
 }
@@ -287,25 +280,25 @@ fn left_over(rt: &impl Print) -> io::Result<()> {
     // more than 7 bits
     say(
         rt,
-        b"8 left",
+        "8 left",
         b"\x10\x01\x00\x00\x01\x00\x00\x18\x00\x00\x00\x80\x00\x00\x01\x01\x00\x40\x10\x00\x00\x00\x01\x00",
     )?;
     // not all zero
     say(
         rt,
-        b"1 left and set",
+        "1 left and set",
         b"\x10\x01\x00\x00\x01\x00\x00\x17\x00\x00\x00\x80\x00\x00\x01\x01\x00\x30\x10\x00\x00\x00\x03",
     )?;
     // P7: not all zero
     say(
         rt,
-        b"6 left, the last set",
+        "6 left, the last set",
         b"\x10\x01\x00\x00\x0a\x00\x00\x19\x00\x00\x00\x80\x00\x00\x02\x09\x02\x30\x90\x00\x00\x74\x0b\x02\x41",
     )?;
     // 8 bits are left after the directory; T is 0
     say(
         rt,
-        b"9 bytes, no terms",
+        "9 bytes, no terms",
         b"\x10\x00\x00\x00\x00\x00\x00\x09\x00",
     )
 }
@@ -316,37 +309,37 @@ fn sixteen(rt: &impl Print) -> io::Result<()> {
     // document 47 is below N
     say(
         rt,
-        b"16 postings",
+        "16 postings",
         b"\x10\x01\x00\x00\x30\x00\x00\x36\x00\x00\x00\x80\x00\x00\x10\x09\x1e\x80\x90\x00\x02\xf0\x20\x10\x20\x10\x20\x10\x20\x10\x20\x10\x20\x10\x20\x10\x20\x90\x20\x10\x20\x10\x20\x10\x20\x10\x20\x10\x20\x10\x20\x10\x20\x10",
     )?;
     // document 47 is N
     say(
         rt,
-        b"16 postings, N = 47",
+        "16 postings, N = 47",
         b"\x10\x01\x00\x00\x2f\x00\x00\x36\x00\x00\x00\x80\x00\x00\x10\x09\x1e\x80\x90\x00\x02\xf0\x20\x10\x20\x10\x20\x10\x20\x10\x20\x10\x20\x10\x20\x10\x20\x90\x20\x10\x20\x10\x20\x10\x20\x10\x20\x10\x20\x10\x20\x10\x20\x10",
     )?;
     // document 44 has impact 0; 6 comes before 7
     say(
         rt,
-        b"16 postings, impact 0",
+        "16 postings, impact 0",
         b"\x10\x01\x00\x00\x30\x00\x00\x36\x00\x00\x00\x80\x00\x00\x10\x09\x1e\x80\x90\x00\x02\xf0\x20\x10\x20\x10\x20\x10\x20\x10\x20\x10\x20\x10\x20\x10\x20\x90\x20\x10\x20\x10\x20\x10\x20\x10\x20\x10\x20\x10\x20\x00\x20\x10",
     )?;
     // document 44 has impact 10, and the head says 9
     say(
         rt,
-        b"16 postings, one above the largest",
+        "16 postings, one above the largest",
         b"\x10\x01\x00\x00\x30\x00\x00\x36\x00\x00\x00\x80\x00\x00\x10\x09\x1e\x80\x90\x00\x02\xf0\x20\x10\x20\x10\x20\x10\x20\x10\x20\x10\x20\x10\x20\x10\x20\x90\x20\x10\x20\x10\x20\x10\x20\x10\x20\x10\x20\x10\x20\xa0\x20\x10",
     )?;
     // document 23 has impact 8, and the head says 9
     say(
         rt,
-        b"16 postings, none of the largest",
+        "16 postings, none of the largest",
         b"\x10\x01\x00\x00\x30\x00\x00\x36\x00\x00\x00\x80\x00\x00\x10\x09\x1e\x80\x90\x00\x02\xf0\x20\x10\x20\x10\x20\x10\x20\x10\x20\x10\x20\x10\x20\x10\x20\x80\x20\x10\x20\x10\x20\x10\x20\x10\x20\x10\x20\x10\x20\x10\x20\x10",
     )?;
     // the gap of the second is 1, so the last document is 46
     say(
         rt,
-        b"16 postings, one gap less",
+        "16 postings, one gap less",
         b"\x10\x01\x00\x00\x30\x00\x00\x36\x00\x00\x00\x80\x00\x00\x10\x09\x1e\x80\x90\x00\x02\xf0\x20\x10\x10\x10\x20\x10\x20\x10\x20\x10\x20\x10\x20\x10\x20\x90\x20\x10\x20\x10\x20\x10\x20\x10\x20\x10\x20\x10\x20\x10\x20\x10",
     )
 }
@@ -356,31 +349,31 @@ fn gapless(rt: &impl Print) -> io::Result<()> {
     // document 15 is below N = 16
     say(
         rt,
-        b"16 postings, w = 0",
+        "16 postings, w = 0",
         b"\x10\x01\x00\x00\x10\x00\x00\x26\x00\x00\x00\x80\x00\x00\x10\x09\x1e\x00\x90\x00\x00\xf0\x10\x10\x10\x10\x10\x10\x10\x90\x10\x10\x10\x10\x10\x10\x10\x10",
     )?;
     // document 10 has impact 0
     say(
         rt,
-        b"w = 0, impact 0",
+        "w = 0, impact 0",
         b"\x10\x01\x00\x00\x10\x00\x00\x26\x00\x00\x00\x80\x00\x00\x10\x09\x1e\x00\x90\x00\x00\xf0\x10\x10\x10\x10\x10\x10\x10\x90\x10\x10\x00\x10\x10\x10\x10\x10",
     )?;
     // document 11 has impact 0
     say(
         rt,
-        b"w = 0, impact 0 next",
+        "w = 0, impact 0 next",
         b"\x10\x01\x00\x00\x10\x00\x00\x26\x00\x00\x00\x80\x00\x00\x10\x09\x1e\x00\x90\x00\x00\xf0\x10\x10\x10\x10\x10\x10\x10\x90\x10\x10\x10\x00\x10\x10\x10\x10",
     )?;
     // document 10 has impact 10, and the head says 9
     say(
         rt,
-        b"w = 0, one above the largest",
+        "w = 0, one above the largest",
         b"\x10\x01\x00\x00\x10\x00\x00\x26\x00\x00\x00\x80\x00\x00\x10\x09\x1e\x00\x90\x00\x00\xf0\x10\x10\x10\x10\x10\x10\x10\x90\x10\x10\xa0\x10\x10\x10\x10\x10",
     )?;
     // document 7 has impact 8, and the head says 9
     say(
         rt,
-        b"w = 0, none of the largest",
+        "w = 0, none of the largest",
         b"\x10\x01\x00\x00\x10\x00\x00\x26\x00\x00\x00\x80\x00\x00\x10\x09\x1e\x00\x90\x00\x00\xf0\x10\x10\x10\x10\x10\x10\x10\x80\x10\x10\x10\x10\x10\x10\x10\x10",
     )
 }
@@ -394,7 +387,7 @@ fn full(rt: &impl Print) -> io::Result<()> {
         \x10\x10\x10\x10\x10\x10\x10\x10\x10\x10\x10\x10\x10\x10\x10\x10\x10\x10\x10\x10\x10\x10\x10\x10\x10\x10\x10\x10\x10\x10\x10\x10\
         \x10\x10\x10\x10\x10\x10\x10\x10\x10\x10\x10\x10\x10\x10\x10\x10\x10\x10\x10\x10\x10\x10\x10\x10\x10\x10\x10\x10\x10\x10\x10\x10\
         \x00\x01\x00\x00\x80\x01";
-    say(rt, b"blocks of 128 and 1", bytes)
+    say(rt, "blocks of 128 and 1", bytes)
 }
 
 fn main(rt: HostRuntime) -> io::Result<()> {

@@ -1,30 +1,42 @@
 -- Laws of the fixed fields: each out of the one number that all their bits are, a block's head of 44 bits, a directory entry and the header of
 -- 64; and how large each can be.
 use Rattle.std.specs.Prelude.{ℕ, ◌+◌, ◌*◌, ◌/◌, ◌%◌, ◌^◌, ◌≤◌, ◌<◌, ◌≡◌, List, drop}
-use Rattle.std.proofs.Common.{ap, ◌∙◌, add_assoc, arith}
+use Rattle.std.proofs.Common.{ap, ◌∙◌, add_assoc, add-zero, arith}
 use Rattle.std.proofs.Math.Path.{subst⁻¹}
 use Rattle.meaning.specs.Bits.{bits_at}
 use Rattle.meaning.specs.BitsLaws.{bits_lt, bits_drop}
 use Rattle.meaning.specs.Layout.{Header, header_of, Entry, entry_at, Head, head_at}
 use Rattle.bits.specs.Parts.{from, from_is}
-use Rattle.bits.specs.BitsSplit.{bits_first, bits_second, bits_within}
+use Rattle.bits.specs.BitsSplit.{bits_second, bits_within}
+
+abbrev cut : ℕ → ℕ → ℕ → ℕ
+cut x below n = x / 2 ^ below % 2 ^ n
+
+-- the last n of m + n bits
+cut_last : (s : List ℕ) (i m n : ℕ) → bits_at s i (m + n) / 1 % 2 ^ n ≡ bits_at s (i + m) n
+cut_last s i m n =
+    let e : bits_at s i (m + n) / 1 ≡ bits_at s i (m + n) = omega arith in
+    rw e (bits_second s i m n)
 
 pub head_is :
-    (s : List ℕ) (i x : ℕ) → x ≡ bits_at s i 44 →
-    head_at s i ≡ record { count = x / 2 ^ 37 + 1; width = x / 2 ^ 32 % 2 ^ 5; largest = x / 2 ^ 24 % 2 ^ 8; last = x % 2 ^ 24 }
-head_is s i x e = rw e (cc (bits_first s i 7 37, bits_within s i 7 5 32, bits_within s i 12 8 24, bits_second s i 20 24))
+    (s : List ℕ) (i : ℕ) →
+    let x = bits_at s i 44 in
+    head_at s i ≡ record { count = cut x 37 7 + 1; width = cut x 32 5; largest = cut x 24 8; last = cut x 0 24 }
+head_is s i = cc (bits_within s i 0 7 37, bits_within s i 7 5 32, bits_within s i 12 8 24, cut_last s i 20 24, add-zero i)
 
 pub entry_is :
-    (s : List ℕ) (t x : ℕ) → x ≡ bits_at s (64 + 64 * t) 64 →
-    entry_at s t ≡ record { first = x / 2 ^ 32; count = x / 2 ^ 8 % 2 ^ 24; largest = x % 2 ^ 8 }
-entry_is s t x e =
+    (s : List ℕ) (t : ℕ) →
+    let x = bits_at s (64 + 64 * t) 64 in
+    entry_at s t ≡ record { first = cut x 32 32; count = cut x 8 24; largest = cut x 0 8 }
+entry_is s t =
     let i = 64 + 64 * t in
-    rw e (cc (bits_first s i 32 32, bits_within s i 32 24 8, bits_second s i 56 8))
+    cc (bits_within s i 0 32 32, bits_within s i 32 24 8, cut_last s i 56 8, add-zero i)
 
 pub header_is :
-    (s : List ℕ) (x : ℕ) → x ≡ bits_at s 0 64 →
-    header_of s ≡ record { version = x / 2 ^ 60; terms = x / 2 ^ 48 % 2 ^ 12; docs = x / 2 ^ 24 % 2 ^ 24; bytes = x % 2 ^ 24 }
-header_is s x e = rw e (cc (bits_first s 0 4 60, bits_within s 0 4 12 48, bits_within s 0 16 24 24, bits_second s 0 40 24))
+    (s : List ℕ) →
+    let x = bits_at s 0 64 in
+    header_of s ≡ record { version = cut x 60 4; terms = cut x 48 12; docs = cut x 24 24; bytes = cut x 0 24 }
+header_is s = cc (bits_within s 0 0 4 60, bits_within s 0 4 12 48, bits_within s 0 16 24 24, cut_last s 0 40 24)
 
 -- a head in the part that is cut at byte k, and at the byte that holds its first bit
 pub head_drop : (s : List ℕ) (k i : ℕ) → head_at (drop k s) i ≡ head_at s (8 * k + i)

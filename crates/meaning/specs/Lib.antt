@@ -3,6 +3,7 @@ pub mod Bits
 pub mod Layout
 pub mod Image
 pub mod Sheet
+pub mod Refusals
 pub mod Score
 pub mod Asked
 pub mod Rank
@@ -18,6 +19,7 @@ pub mod Worked
 pub mod Edges
 pub mod BitsLaws
 pub mod JudgedLaws
+pub mod ToldLaws
 pub mod ImageFits
 pub mod ImageLaws
 pub mod TermLaws

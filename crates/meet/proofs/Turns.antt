@@ -1,13 +1,7 @@
--- The loop of the walk of mode 2: what it keeps, and the ways through it.
-use mathlib.Core.Path.{◌≡◌, refl, sym, ap, ◌∙◌}
-use mathlib.Core.List.{List, []}
-use Prim.Native.Nat.{ℕ, suc, ◌+◌, ◌*◌, ◌-◌, ◌≤◌, ◌<◌}
-use native.Mathlib.Omega.{arith}
-use native.Mathlib.Numerals.{add-one}
-use lib.Dec.{eqb}
-use lib.ListN.{length, get_or, set, drop, length-set, length-map, length-take, drop_of_length-le}
-use lib.Seq.{set-get_or}
-use borrow.Author.Tests.{eqb-true, eqb-false}
+-- The loops of the walk of mode 2: what they keep, and the ways through them.
+use Rattle.std.proofs.Common.{◌≡◌, refl, sym, ap, ◌∙◌, List, [], ℕ, suc, ◌+◌, ◌*◌, ◌-◌, ◌≤◌, ◌<◌, arith, add-one, eqb, length, get_or, set, drop, length-set, length-take, drop_of_length-le, eqb-true}
+use Rattle.std.proofs.lemmas.Bool.{eqb-false}
+use Rattle.std.proofs.lemmas.List.{length-map, set-get_or}
 use Rattle.lists.specs.Tests.{by_test}
 use Rattle.meaning.specs.Image.{index_of}
 use Rattle.meaning.specs.Score as sc
@@ -24,8 +18,8 @@ use Rattle.visit.specs.NextLaws.{doc_none, doc_some}
 use Rattle.visit.specs.StandLaws.{stands_later, stands_after, stands_hit, stands_miss, stands_fits, goes_same}
 use Rattle.visit.specs.PlacedLaws.{placed_meant, placed_looked}
 use Rattle.visit.specs.StartLaws.{meant_at}
-use Rattle.visit.specs.Walk.{meant_of, run_of}
-use Rattle.visit.specs.declared.Visit.{Visit}
+use Rattle.visit.specs.Walk.{meant_of}
+use Rattle.visit.specs.declared.End.TheVariants as visited
 use Rattle.meet.specs.Meet.{Meets, meet_by, Leaves}
 use Rattle.meet.specs.MeetLaws.{meet_all, meet_none, lacks}
 
@@ -55,11 +49,16 @@ module _ (s : List ℕ) (os : List sc.Mention) (bar q budget : ℕ) (run : Run) 
     pub holds : i + sc.holders (drop i os) d ≡ sc.holders os d
     pub sum_fits : sum ≤ 65025 * i
 
-  -- the loop is at document past - 1, or at the end
-  pub record Looping (cost past : ℕ) (ms : List Mention) (count sum i : ℕ) : Type 0 where
-    pub paid : cost ≡ q
+  -- the walk is at document past - 1, or at the end
+  pub record Between (past : ℕ) (ms : List Mention) (count : ℕ) : Type 0 where
     pub least : 0 < past
-    pub meeting : Meeting (doc_of (index_of s).docs past) ms count sum i
+    pub at : Reaches (doc_of (index_of s).docs past) ms count
+
+  -- it is at document past - 1, which the first i lists hold
+  pub record Inside (past : ℕ) (ms : List Mention) (count sum i : ℕ) : Type 0 where
+    pub least : 0 < past
+    pub going : past ≡ 4294967295 → ⊥
+    pub meeting : Meeting (past - 1) ms count sum i
 
 -- mention i at document d: sought, or where it was
 pub record Found (s : List ℕ) (d : ℕ) (ms : List Mention) (i : ℕ) (ns : List Mention) (m : Mention) : Type 0 where
@@ -74,11 +73,6 @@ all_aside s os q d ms whole means lags =
     record { means = means; aside = lags; gone = λ x g h. absurd (omega arith); here = λ x g h. absurd (omega arith) }
 
 module _ {s : List ℕ} {os : List sc.Mention} {bar q budget : ℕ} {run : Run} {d : ℕ} {ms : List Mention} {count : ℕ} (r : Reaches s os bar q budget run d ms count) where
-  -- no list is looked at yet
-  fresh : Meeting s os bar q budget run d ms count 0 0
-  fresh =
-      record { at = r; within = omega arith; seen = λ h. absurd (omega arith); sums = omega arith; holds = omega arith; sum_fits = omega arith }
-
   -- at a later document the mentions lag too
   later_aside : (e : ℕ) → d ≤ e → (x : ℕ) → x < q → Lags s e (get_or ms x none)
   later_aside e h x lt = let l = r.placed.aside x lt in (l.0, omega (arith, l.1), l.2)
@@ -220,85 +214,16 @@ module _ {s : List ℕ} {os : List sc.Mention} {bar q budget : ℕ} {run : Run} 
             same = rw tally at (sym (run_on (meet_at os) bar q budget d count ((index_of s).docs - suc d) costs fits (rw tally h))) ∙ rw left at r.same;
           }
 
--- what the walk has to show when it ends
-abbrev pub Ends : List ℕ → List sc.Mention → ℕ → Run → Visit → Type 0
-Ends s os q run r = (run_of (index_of s).docs r ≡ run) × ((0 < r.past) × (r.turn ≡ Entered → Leaves s os q r))
-
-module _ {s : List ℕ} {os : List sc.Mention} {bar q budget : ℕ} {run : Run} {cost past : ℕ} {ms : List Mention} {count sum i : ℕ} (k : Looping s os bar q budget run cost past ms count sum i) where
-  -- no document is left
-  pub finished : past ≡ 4294967295 → {r : Visit} {next : ℕ} → r ≡ record { ms = ms; turn = Finished; past = past; sum = 0; count = count; next = next } → Ends s os q run r
-  finished e same =
-      let N = (index_of s).docs in
-      let none : N - N ≡ 0 = omega arith in
-      let at = doc_none N past e in
-      rw same (rw at (sym (run_end (meet_at os) bar q budget N count) ∙ rw (at, none) at k.meeting.at.same), (k.least, λ t. let z : ◌≡◌ {A = ℕ} 0 1 = cc in absurd (omega arith)))
-
-  module _ (going : past ≡ 4294967295 → ⊥) where
-    at_doc : doc_of (index_of s).docs past ≡ past - 1
-    at_doc = doc_some (index_of s).docs past going
-
-    pub here : Meeting s os bar q budget run (past - 1) ms count sum i
-    here = rw at_doc at k.meeting
-
-    there : suc (past - 1) ≡ past
-    there = omega (arith, k.least)
-
-    -- a mention is looked at
-    module _ {ns : List Mention} {m : Mention} (lt : i < q) (f : Found s (past - 1) ms i ns m) where
-      pub hits : m.cursor.past ≡ past → Looping s os bar q budget run cost past ns count (sum + m.weight * m.cursor.impact) (i + 1)
-      hits e = record { paid = k.paid; least = k.least; meeting = rw at_doc (hit here lt f (e ∙ sym there)) }
-
-      module _ (ne : m.cursor.past ≡ past → ⊥) where
-        pub rises : past < m.cursor.past
-        rises = omega (arith, after here lt f (λ z. ne (z ∙ there)), there)
-
-        pub misses : Looping s os bar q budget run cost m.cursor.past ns count 0 0
-        misses = record { paid = k.paid; least = omega (arith, rises); meeting = fresh (miss here lt f (λ z. ne (z ∙ there))) }
-
-    -- all have been looked at
-    module _ (end : q ≤ i) where
-      pub stops : budget < count + cost → {r : Visit} {next : ℕ} → r ≡ record { ms = ms; turn = Stopped; past = past; sum = 0; count = count; next = next } → Ends s os q run r
-      stops h same =
-          rw same (rw at_doc (stopped here end (omega (arith, k.paid))), (k.least, λ t. let z : ◌≡◌ {A = ℕ} 0 1 = cc in absurd (omega arith)))
-
-      module _ (fits : count + cost ≤ budget) where
-        pub enters : bar < sum → {r : Visit} → r ≡ record { ms = ms; turn = Entered; past = past; sum = sum; count = count + cost; next = past + 1 } → Ends s os q run r
-        enters h same =
-            let r = here.at in
-            let at : past + 1 - 1 ≡ suc (past - 1) = omega (arith, there) in
-            let leaves : Leaves s os q (record { ms = ms; turn = Entered; past = past; sum = sum; count = count + q; next = past + 1 }) =
-            record {
-              next = refl;
-              means = placed_meant r.placed r.ground.whole (omega (arith, r.long, r.ground.few));
-              meets = record {
-                some = r.ground.some;
-                few = r.ground.few;
-                least = omega arith;
-                most = omega (arith, inside here end);
-                lags = rw at (later_aside r (suc (past - 1)) (omega arith));
-                spare = rw at (omega (arith, r.spare, r.ground.few));
-              };
-            } in
-            rw (same, k.paid) (rw at_doc (entered here end (omega (arith, k.paid)) h), (k.least, λ t. leaves))
-
-        pub passes : sum ≤ bar → Looping s os bar q budget run cost (past + 1) ms (count + cost) 0 0
-        passes h =
-            let next : doc_of (index_of s).docs (past + 1) ≡ suc (past - 1) =
-            doc_some (index_of s).docs (past + 1) (λ z. omega (arith, here.at.most, here.at.ground.docs)) ∙ omega (arith, there) in
-            record { paid = k.paid; least = omega arith; meeting = rw (next, k.paid) (fresh (passed here end (omega (arith, k.paid)) h)) }
-
--- how the loop starts
-pub starts : {s : List ℕ} {ms : List Mention} {bar q budget past count cost : ℕ} → Meets s ms q past count → length ms ≡ 16 → cost ≡ q →
-    Looping s (meant_of s q ms) bar q budget (meet_by s (meant_of s q ms) bar q budget past count) cost past ms count 0 0
-starts {s} {ms} {q = q} {past = past} m long paid =
+-- how the walk starts
+pub starts : {s : List ℕ} {ms : List Mention} {bar q budget past count : ℕ} → Meets s ms q past count → length ms ≡ 16 →
+    Between s (meant_of s q ms) bar q budget (meet_by s (meant_of s q ms) bar q budget past count) past ms count
+starts {s} {ms} {q = q} {past = past} m long =
     let os = meant_of s q ms in
     let docs = (m.lags 0 m.some).2.sound.ready.few in
     let whole : length os ≡ q = simp (length-map, length-take) (omega (arith, m.few)) in
     record {
-      paid = paid;
       least = m.least;
-      meeting = rw (doc_some (index_of s).docs past (λ z. omega (arith, m.most)))
-          (fresh
+      at = rw (doc_some (index_of s).docs past (λ z. omega (arith, m.most)))
           (record {
             ground = record { whole = whole; some = m.some; few = m.few; docs = docs };
             long = long;
@@ -306,5 +231,71 @@ starts {s} {ms} {q = q} {past = past} m long paid =
             placed = all_aside s os q (past - 1) ms whole (meant_at s q ms) m.lags;
             spare = m.spare;
             same = refl;
-          }));
+          });
     }
+
+module _ {s : List ℕ} {os : List sc.Mention} {bar q budget : ℕ} {run : Run} {past : ℕ} {ms : List Mention} {count : ℕ} (k : Between s os bar q budget run past ms count) where
+  -- no document is left
+  pub finished : past ≡ 4294967295 → record { turn = Finished; doc = (index_of s).docs; sum = 0; count = count } ≡ run
+  finished e =
+      let N = (index_of s).docs in
+      let none : N - N ≡ 0 = omega arith in
+      let at = doc_none N past e in
+      sym (run_end (meet_at os) bar q budget N count) ∙ rw (at, none) at k.at.same
+
+module _ {s : List ℕ} {os : List sc.Mention} {bar q budget : ℕ} {run : Run} {past : ℕ} {ms : List Mention} {count sum i : ℕ} (k : Inside s os bar q budget run past ms count sum i) where
+  there : suc (past - 1) ≡ past
+  there = omega (arith, k.least)
+
+  at_doc : doc_of (index_of s).docs past ≡ past - 1
+  at_doc = doc_some (index_of s).docs past k.going
+
+  -- a mention is looked at
+  module _ {ns : List Mention} {m : Mention} (lt : i < q) (f : Found s (past - 1) ms i ns m) where
+    pub hits : m.cursor.past ≡ past → Inside s os bar q budget run past ns count (sum + m.weight * m.cursor.impact) (i + 1)
+    hits e = record { least = k.least; going = k.going; meeting = hit k.meeting lt f (e ∙ sym there) }
+
+    pub hits_fit : m.cursor.past ≡ past → sum + m.weight * m.cursor.impact < 4294967296
+    hits_fit e =
+        let x = k.meeting in
+        omega (arith, stands_fits f.stands (λ z. k.going (omega arith)), x.sum_fits, x.within, x.at.ground.few)
+
+    module _ (ne : m.cursor.past ≡ past → ⊥) where
+      pub rises : past < m.cursor.past
+      rises = omega (arith, after k.meeting lt f (λ z. ne (z ∙ there)), there)
+
+      pub misses : Between s os bar q budget run m.cursor.past ns count
+      misses = record { least = omega (arith, rises); at = miss k.meeting lt f (λ z. ne (z ∙ there)) }
+
+  -- all have been looked at
+  module _ (end : q ≤ i) where
+    pub stops : budget < count + q → record { turn = Stopped; doc = doc_of (index_of s).docs past; sum = 0; count = count } ≡ run
+    stops h = rw at_doc (stopped k.meeting end h)
+
+    module _ (fits : count + q ≤ budget) where
+      pub enters : bar < sum → record { turn = Entered; doc = doc_of (index_of s).docs past; sum = sum; count = count + q } ≡ run
+      enters h = rw at_doc (entered k.meeting end fits h)
+
+      pub leaves : Leaves s os q (record { ms = ms; count = count + q; end = visited.Entered past sum (past + 1) }) past (past + 1)
+      leaves =
+          let r = k.meeting.at in
+          let at : past + 1 - 1 ≡ suc (past - 1) = omega (arith, there) in
+          record {
+            next = refl;
+            means = placed_meant r.placed r.ground.whole (omega (arith, r.long, r.ground.few));
+            meets = record {
+              some = r.ground.some;
+              few = r.ground.few;
+              least = omega arith;
+              most = omega (arith, inside k.meeting end);
+              lags = rw at (later_aside r (suc (past - 1)) (omega arith));
+              spare = rw at (omega (arith, r.spare, r.ground.few));
+            };
+          }
+
+      pub passes : sum ≤ bar → Between s os bar q budget run (past + 1) ms (count + q)
+      passes h =
+          let r = k.meeting.at in
+          let next : doc_of (index_of s).docs (past + 1) ≡ suc (past - 1) =
+          doc_some (index_of s).docs (past + 1) (λ z. omega (arith, r.most, r.ground.docs)) ∙ omega (arith, there) in
+          record { least = omega arith; at = rw next (passed k.meeting end fits h) }

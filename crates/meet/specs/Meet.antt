@@ -33,8 +33,9 @@ abbrev pub meet_by : List ℕ → List sc.Mention → ℕ → ℕ → ℕ → �
 meet_by s os bar q budget past count =
     run_from (meet_at os) bar q budget (past - 1) count ((index_of s).docs - (past - 1))
 
--- where it leaves the mentions when a document enters: the walk may start anew from the document after that one, with the same mentions
-pub record Leaves (s : List ℕ) (os : List sc.Mention) (q : ℕ) (r : Visit) : Type 0 where
-  pub next : r.next ≡ r.past + 1
-  pub meets : Meets s r.ms q r.next r.count
+-- where it leaves the mentions when document past - 1 enters: the walk may start anew from the document after that one, with the same
+-- mentions
+pub record Leaves (s : List ℕ) (os : List sc.Mention) (q : ℕ) (r : Visit) (past later : ℕ) : Type 0 where
+  pub next : later ≡ past + 1
+  pub meets : Meets s r.ms q later r.count
   pub means : meant_of s q r.ms ≡ os

@@ -1,106 +1,95 @@
--- The loop over a sheet's queries: after i of them their lines are laid, query i stands at number `query` of the sheet, and its stretch starts at
--- number `from` of the answer row.
-use mathlib.Core.Path.{◌≡◌, ap}
-use mathlib.Core.List.{List}
-use Prim.Native.Nat.{ℕ, ◌+◌, ◌*◌, ◌≤◌, ◌<◌}
-use native.Mathlib.Omega.{arith}
-use lib.ListN.{length, get_or, take}
-use Rattle.meaning.specs.Sheet.{Query}
+-- The loop over a sheet's queries: after i of them their lines are laid, query i stands at number `query` of the sheet, and `rest` is what the
+-- answer row has from its stretch on.
+use Rattle.std.proofs.Common.{◌≡◌, refl, ap, List, ℕ, ◌+◌, ◌-◌, ◌*◌, ◌≤◌, ◌<◌, length, get_or, take, drop, arith, length-drop, get_or-drop, drop-drop, add_assoc}
+use Rattle.std.proofs.lemmas.Slice.{between_to_end}
+use Rattle.std.specs.Borrow.{MutBor}
+use Rattle.meaning.specs.Judged.{good}
+use Rattle.meaning.specs.Sheet.{Query, sheet_of}
 use Rattle.meaning.specs.SheetLaws.{sheet_good}
 use Rattle.meaning.specs.Call.{needed}
 use Rattle.sheet.specs.declared.Record.{Record}
 use Rattle.sheet.specs.Record.{Readable, IsRecord, query_from}
-use Rattle.sheet.specs.QueryLaws.{RecordFits, needed_next, needed_most}
-use Rattle.sheet.specs.Standing.{Standing, standing_first, standing_query, standing_readable, standing_fits, standing_next, standing_more, standing_over}
-use Rattle.printing.specs.Text.{answer_lines, query_lines}
-use Rattle.printing.specs.TextLaws.{queries_next}
-use Rattle.printing.specs.Laid.{Wrote}
-use Rattle.printing.specs.LaidLaws.{wrote_none, wrote_then}
-use Rattle.printing.specs.Printable.{Printable, Printed}
+use Rattle.sheet.specs.QueryLaws.{needed_next, needed_most}
+use Rattle.sheet.specs.Standing.{Standing, standing_first, standing_query, standing_readable, standing_fits, standing_inside, standing_next}
+use Rattle.printing.specs.declared.Page.{Page}
+use Rattle.printing.specs.Text.{answer_lines, query_lines, sheet_lines}
+use Rattle.printing.specs.TextLaws.{queries_next, answer_drop}
+use Rattle.printing.specs.Laid.{Wrote, Starts, Lays}
+use Rattle.printing.specs.LaidLaws.{lays_none, lays_then, starts_then}
+use Rattle.printing.specs.Printable.{Printable}
 use Rattle.printing.specs.PrintableLaws.{lines_length, sheet_same}
 
-pub record Going (sheet row before : List ℕ) (query from at : ℕ) (out : List ℕ) : Type 0 where
+pub record Going (sheet row : List ℕ) (before : Page) (i query : ℕ) (rest : List ℕ) (page : Page) : Type 0 where
   pub asked : Printable sheet row
-  pub i : ℕ
-  pub some : i ≤ length asked.queries
   pub stands : Standing sheet asked.T asked.queries i query
-  pub from_is : from ≡ needed (take i asked.queries)
-  pub wrote : Wrote 0 (query_lines row asked.queries i) before out at
+  pub rest_is : rest ≡ drop (needed (take i asked.queries)) row
+  pub laid : Lays (query_lines row asked.queries i) before page
 
-pub start : (sheet row before : List ℕ) → Printable sheet row → Going sheet row before 1 0 0 before
+pub start : (sheet row : List ℕ) (page : Page) → Printable sheet row → Going sheet row page 0 1 row page
 unfolding needed query_lines
-start sheet row before p =
-    record {
-      asked = p;
-      i = 0;
-      some = omega arith;
-      stands = standing_first sheet p.T p.queries p.accepted;
-      from_is = omega arith;
-      wrote = wrote_none 0 before;
-    }
+start sheet row page p =
+    record { asked = p; stands = standing_first sheet p.T p.queries p.accepted; rest_is = refl; laid = lays_none page }
 
 -- what a turn needs of the lines so far, of its record, and of its stretch
-pub record Turn (sheet row : List ℕ) (query from at : ℕ) (r : Record) : Type 0 where
-  pub near : at ≤ 176064
-  pub behind : query < r.pairs
-  pub inside : r.pairs + 2 * r.q ≤ length sheet
+pub record Turn (sheet : List ℕ) (query : ℕ) (rest : List ℕ) (before page : Page) (r : Record) : Type 0 where
+  pub near : page.at ≤ before.at + 176064
+  pub inside : query + 4 + length r.pairs.now ≤ length sheet
   pub k_high : r.k ≤ 64
-  pub rows : get_or row (from + 1) 0 ≤ r.k
-  pub room : from + (3 + 2 * r.k) ≤ length row
+  pub rows : get_or rest 1 0 ≤ r.k
+  pub room : 3 + 2 * r.k ≤ length rest
 
-module _ {sheet row before : List ℕ} {query from at : ℕ} {out : List ℕ} (g : Going sheet row before query from at out) where
+module _ {sheet row : List ℕ} {before : Page} {i query : ℕ} {rest : List ℕ} {page : Page} (g : Going sheet row before i query rest page) where
   abbrev T : ℕ
   T = g.asked.T
 
   abbrev qs : List Query
   qs = g.asked.queries
 
-  module _ (left : query < length sheet) where
-    more : g.i < length qs
-    more = standing_more sheet T qs g.i query g.stands left
+  count : length qs ≡ get_or sheet 0 0
+  count = (sheet_good sheet T qs g.asked.accepted).count
+
+  module _ (left : i < get_or sheet 0 0) where
+    more : i < length qs
+    more = omega (arith, count)
 
     pub readable : Readable sheet query
-    readable = standing_readable sheet T qs g.i query g.stands more
+    readable = standing_readable sheet T qs i query g.stands more
 
     module _ (r : Record) (is : IsRecord sheet query r) where
-      fits : RecordFits sheet T r
-      fits = standing_fits sheet T qs g.i query g.stands more r is
-
-      k_is : r.k ≡ (get_or qs g.i (query_from sheet 0)).k
+      k_is : r.k ≡ (get_or qs i (query_from sheet 0)).k
       k_is =
-          let here = standing_query sheet T qs g.i query g.stands more (query_from sheet 0) in
-          ap (λ (q : Query). q.k) (is.0 T g.i (get_or qs g.i (query_from sheet 0)) here)
+          let d = query_from sheet 0 in
+          ap (λ (q : Query). q.k) (is.0 T i (get_or qs i d) (standing_query sheet T qs i query g.stands more d))
 
-      next : from + (3 + 2 * r.k) ≡ needed (take (g.i + 1) qs)
-      next = omega (arith, k_is, g.from_is, needed_next qs g.i more (query_from sheet 0))
+      next : needed (take i qs) + (3 + 2 * r.k) ≡ needed (take (i + 1) qs)
+      next = omega (arith, k_is, needed_next qs i more (query_from sheet 0))
 
-      pub turn : Turn sheet row query from at r
+      pub turn : Turn sheet query rest before page r
       turn =
           record {
-            near = omega (arith, more, (sheet_good sheet T qs g.asked.accepted).some, g.wrote.next_is, lines_length g.asked g.i g.some);
-            behind = omega (arith, is.1);
-            inside = fits.all;
-            k_high = fits.rows.1;
-            rows = rw (g.from_is, k_is) (g.asked.found g.i more (query_from sheet 0));
-            room = omega (arith, next, needed_most qs (g.i + 1), g.asked.room);
+            near = omega (arith, more, (sheet_good sheet T qs g.asked.accepted).some, g.laid.wrote.next_is, lines_length g.asked i (omega (arith, more)));
+            inside = standing_inside sheet T qs i query g.stands more r is;
+            k_high = (standing_fits sheet T qs i query g.stands more r is).rows.1;
+            rows = rw (g.rest_is, get_or-drop, k_is) (g.asked.found i more (query_from sheet 0));
+            room = rw (g.rest_is, length-drop) (omega (arith, next, needed_most qs (i + 1), g.asked.room));
           }
 
       -- once its lines are laid, the loop goes on behind it
       pub go_on :
-          {p : List ℕ} {x : ℕ} → Wrote at (answer_lines row from) out p x →
-          Going sheet row before (r.pairs + 2 * r.q) (from + (3 + 2 * r.k)) x p
-      go_on {p} {x} w =
+          {p : Page} → Lays (answer_lines rest 0) page p →
+          Going sheet row before (i + 1) (query + (4 + length r.pairs.now)) (take (length rest - (3 + 2 * r.k)) (drop (3 + 2 * r.k) rest)) p
+      go_on {p} w =
           record {
             asked = g.asked;
-            i = g.i + 1;
-            some = omega (arith, more);
-            stands = standing_next sheet T qs g.i query g.stands more r is;
-            from_is = next;
-            wrote = rw (← queries_next row qs g.i) (wrote_then g.wrote (rw g.from_is at w));
+            stands = rw (← add_assoc) (standing_next sheet T qs i query g.stands more r is);
+            rest_is = rw (between_to_end rest (3 + 2 * r.k) (length rest) (omega arith), g.rest_is, drop-drop, next);
+            laid = rw (← queries_next row qs i, ← answer_drop row (needed (take i qs)), ← g.rest_is) (lays_then g.laid w);
           }
 
-  -- where no number of the sheet is left, the lines are those of all queries
-  pub gone : length sheet ≤ query → Printed sheet row before out at
-  gone over T' rs e =
-      let end : g.i ≡ length qs = omega (arith, g.some, standing_over sheet T qs g.i query g.stands over) in
-      rw (sheet_same sheet T' T rs qs e g.asked.accepted, ← end) g.wrote
+  -- where no query is left, the lines are those of all queries
+  pub gone :
+      {out : MutBor (List ℕ)} → get_or sheet 0 0 ≤ i → i ≤ get_or sheet 0 0 → Starts out before → (T' : ℕ) (rs : List Query) → sheet_of sheet T' ≡ good rs →
+      (out.ghost_name ≡ page.out.ghost_name) × Wrote 0 (sheet_lines row rs) out.now page.out.now page.at
+  gone over most s T' rs e =
+      let end : i ≡ length qs = omega (arith, count) in
+      rw (sheet_same sheet T' T rs qs e g.asked.accepted) (starts_then s (rw end at g.laid))

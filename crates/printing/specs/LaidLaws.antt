@@ -3,7 +3,9 @@ use Rattle.std.specs.Prelude.{◌≡◌, refl, List, [], ◌∷◌, ◌++◌, �
 use Rattle.std.proofs.Common.{sym, ◌∙◌, arith, length-append, take_at}
 use Rattle.std.proofs.Math.Seq.{length-sets, set_out}
 use Rattle.std.proofs.lemmas.List.Edits.{sets-eq}
-use Rattle.printing.specs.Laid.{laid, Wrote}
+use Rattle.std.specs.Borrow.{MutBor}
+use Rattle.printing.specs.declared.Page.{Page}
+use Rattle.printing.specs.Laid.{laid, Wrote, Starts, Lays}
 
 laid_append : (at : ℕ) (t u o : List ℕ) → laid at (t ++ u) o ≡ laid (at + length t) u (laid at t o)
 unfolding laid
@@ -52,3 +54,18 @@ wrote_whole {t} {o} {p} {x} w h =
 pub wrote_only :
     {at x y : ℕ} {t o p q : List ℕ} → Wrote at t o p x → Wrote at t o q y → (p ≡ q) × (x ≡ y)
 wrote_only a b = (a.bytes_are ∙ sym b.bytes_are, a.next_is ∙ sym b.next_is)
+
+-- nothing on a page, and one text after another
+pub lays_none : (p : Page) → Lays [] p p
+lays_none p = record { same_reference = refl; wrote = wrote_none p.at p.out.now }
+
+pub lays_then : {t u : List ℕ} {p q r : Page} → Lays t p q → Lays u q r → Lays (t ++ u) p r
+lays_then a b =
+    record { same_reference = b.same_reference ∙ a.same_reference; wrote = wrote_then a.wrote b.wrote }
+
+-- and what is laid on a page that starts over a buffer is laid into that buffer from its first byte on
+pub starts_then :
+    {lent : MutBor (List ℕ)} {t : List ℕ} {p q : Page} → Starts lent p → Lays t p q →
+    (lent.ghost_name ≡ q.out.ghost_name) × Wrote 0 t lent.now q.out.now q.at
+starts_then {lent} {t} {p} {q} s l =
+    (sym (l.same_reference ∙ s.same_reference), rw (s.at_first, s.same_bytes) at l.wrote)

@@ -1,6 +1,7 @@
 -- What the printing program prints, as bytes. "For each query it prints place, rows found and postings scored on one line, then each row's
 -- document and score on a line; single spaces, no blank lines. Otherwise one line: .."
-use Rattle.std.specs.Prelude.{ℕ, zero, suc, ◌+◌, ◌*◌, ◌/◌, ◌%◌, cond, List, [], ◌∷◌, ◌++◌, ltb, length, get_or, take}
+use Rattle.std.specs.Prelude.{ℕ, zero, suc, ◌+◌, ◌*◌, ◌/◌, ◌%◌, cond, List, [], ◌∷◌, ◌++◌, ltb, length, get_or, take, map}
+use Rattle.std.specs.List.{join_with_byte}
 use Rattle.meaning.specs.Sheet.{Query}
 use Rattle.meaning.specs.Call.{needed}
 
@@ -13,7 +14,15 @@ digits (suc n) x = cond (ltb x 10) ((48 + x) ∷ []) (digits n (x / 10) ++ ((48 
 unfoldable pub decimal : ℕ → List ℕ
 decimal x = digits 20 x
 
--- two numbers on a line: a single space between them, and a newline
+-- numbers with a single space between each two
+unfoldable pub spaced : List ℕ → List ℕ
+spaced numbers = join_with_byte 32 (map decimal numbers)
+
+-- numbers on a line: they, and a newline
+unfoldable pub numbers_line : List ℕ → List ℕ
+numbers_line numbers = spaced numbers ++ (10 ∷ [])
+
+-- two numbers on a line
 unfoldable pub pair_line : ℕ → ℕ → List ℕ
 pair_line a b = decimal a ++ (32 ∷ []) ++ decimal b ++ (10 ∷ [])
 

@@ -1,5 +1,6 @@
 -- What the writers lay for a call and for a decision is what the program prints, and how many bytes that takes.
-use Rattle.std.specs.Prelude.{◌≡◌, refl, Bool, List, ℕ, ◌≤◌, length, take, replicate}
+use Rattle.std.specs.Prelude.{◌≡◌, refl, List, [], ℕ, ◌≤◌, length, take, replicate, Option, Some, unwrap_or, Result, Ok, Err}
+use Rattle.std.specs.Option.{option_map}
 use Rattle.std.proofs.Common.{arith}
 use Rattle.meaning.specs.Judged.{Judged, good, bad}
 use Rattle.meaning.proofs.AcceptLaws.{fit_image}
@@ -8,8 +9,7 @@ use Rattle.meaning.specs.Sheet.{sheet_of}
 use Rattle.meaning.specs.Call.{call}
 use Rattle.meaning.specs.CallFits.{CallFits}
 use Rattle.meaning.proofs.CallLaws.{done_exactly}
-use Rattle.printing.specs.declared.Decision.{Decision}
-use Rattle.printing.specs.declared.Decision.TheVariants.{NoFile, TooLarge, OddSheet, Go}
+use Rattle.printing.specs.declared.Unfit.{Unfit}
 use Rattle.printing.specs.Text.{refused_line, sheet_lines}
 use Rattle.printing.specs.TextLaws.{refused_length}
 use Rattle.printing.specs.Laid.{Wrote}
@@ -54,41 +54,34 @@ module _ (image sheet row : List ℕ) where
       by_said (good count) e = done_fit e
 
 -- where an answer is asked for, what is printed is the call's, and else it is the decision's own line
-other_lines : (d : Decision) (lines : List ℕ) → (Go ≡ d → ⊥) → decision_line d ≡ decided_lines d lines
-unfolding decided_lines
-other_lines NoFile lines n = refl
-other_lines TooLarge lines n = refl
-other_lines OddSheet lines n = refl
-other_lines Go lines n = absurd (n refl)
+pub go_printed :
+    (index sheet : List ℕ) {out after : List ℕ} {next : ℕ} →
+    Ok tt ≡ decided (Some (length index)) (Some (length sheet)) → Wrote 0 (call_lines index (numbers_of sheet) (replicate 8384 0)) out after next →
+    Wrote 0 (program_lines (Some index) (Some sheet)) out after next
+unfolding program_lines decided_lines
+go_printed index sheet e w = rw (← e) w
 
-module _ (index? : Bool) (index : List ℕ) (sheet? : Bool) (sheet : List ℕ) {out after : List ℕ} {next : ℕ} where
-  pub go_printed :
-      Go ≡ decided index? (length index) sheet? (length sheet) → Wrote 0 (call_lines index (numbers_of sheet) (replicate 8384 0)) out after next →
-      Wrote 0 (program_lines index? index sheet? sheet) out after next
-  unfolding program_lines decided_lines
-  go_printed e w = rw (← e) w
-
+module _ (index sheet : Option (List ℕ)) where
   pub other_printed :
-      {d : Decision} → d ≡ decided index? (length index) sheet? (length sheet) → (Go ≡ d → ⊥) → Wrote 0 (decision_line d) out after next →
-      Wrote 0 (program_lines index? index sheet? sheet) out after next
-  unfolding program_lines
-  other_printed {d} e n w = rw (← e, ← other_lines d _ n) w
+      {out after : List ℕ} {next : ℕ} {unfit : Unfit} →
+      Err unfit ≡ decided (option_map length index) (option_map length sheet) → Wrote 0 (decision_line unfit) out after next →
+      Wrote 0 (program_lines index sheet) out after next
+  unfolding program_lines decided_lines
+  other_printed e w = rw (← e) w
 
-decided_fit : (d : Decision) (lines : List ℕ) → length lines ≤ 176064 → length (decided_lines d lines) ≤ 176064
+decided_fit : (d : Result (Unit {0}) Unfit) (lines : List ℕ) → length lines ≤ 176064 → length (decided_lines d lines) ≤ 176064
 unfolding decided_lines
-decided_fit NoFile lines h = omega (arith, decision_length NoFile)
-decided_fit TooLarge lines h = omega (arith, decision_length TooLarge)
-decided_fit OddSheet lines h = omega (arith, decision_length OddSheet)
-decided_fit Go lines h = h
+decided_fit (Err unfit) lines h = omega (arith, decision_length unfit)
+decided_fit (Ok fit) lines h = h
 
-module _ (index? : Bool) (index : List ℕ) (sheet? : Bool) (sheet : List ℕ) where
+module _ (index sheet : Option (List ℕ)) where
   abbrev text : List ℕ
-  text = program_lines index? index sheet? sheet
+  text = program_lines index sheet
 
   program_fit : length text ≤ 176064
   unfolding program_lines
   program_fit =
-      decided_fit (decided index? (length index) sheet? (length sheet)) _ (call_lines_fit index (numbers_of sheet) (replicate 8384 0))
+      decided_fit (decided (option_map length index) (option_map length sheet)) _ (call_lines_fit (unwrap_or index []) (numbers_of (unwrap_or sheet [])) (replicate 8384 0))
 
   module _ {out after : List ℕ} {next : ℕ} (w : Wrote 0 text out after next) where
     -- where the buffer has room for any text, the text ends within it, and the bytes before the place that is answered are the text

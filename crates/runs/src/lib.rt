@@ -1,5 +1,5 @@
 // What a walk under one bar comes to: it goes on until a document stops it, enters the table, or none is left.
-// The definitions and the laws stand in specs/; the code shares the three ways in which a run ends.
+// The definitions and the laws stand in specs/, and they alone speak of `Turn`: no code does.
 #![tactic(auto)]
 
 // How a run ends: no document is left; the stop rule stops before one; one enters the table.

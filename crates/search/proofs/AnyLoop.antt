@@ -1,47 +1,39 @@
 -- A query of mode 0 or 1 in its loop: what holds before each walk, whichever query's mentions the array is in order.
-use mathlib.Core.Path.{◌≡◌, refl, sym, ap, subst, ◌∙◌}
-use mathlib.Core.Bool.{Bool, true, false, cond}
-use mathlib.Core.List.{List, [], ◌++◌, map}
-use Prim.Native.Nat.{ℕ, zero, suc, ◌-◌, ◌≤◌, ◌<◌}
-use native.Mathlib.Omega.{arith}
-use lib.ListN.{length, take, drop, get_or, length-map, length-take, length-drop, length-append}
-use lib.Seq.{get_or-take, take-nil}
-use Rattle.lists.specs.Each.{Each, each_from, each_more, each_at}
-use Rattle.meaning.specs.declared.Row.{Row}
+use Rattle.std.specs.Prelude.{◌≡◌, refl, Bool, true, false, cond, List, [], ◌++◌, map, ℕ, zero, suc, ◌-◌, ◌≤◌, ◌<◌, length, take, drop, get_or}
+use Rattle.std.proofs.Common.{sym, ap, subst, ◌∙◌, arith, length-take, length-drop, length-append, get_or-take}
+use Rattle.std.proofs.lemmas.List.{length-map}
+use Rattle.lists.specs.Each.{Each, each_from, each_at}
 use Rattle.meaning.specs.Image.{index_of}
 use Rattle.meaning.specs.Place.{spent}
 use Rattle.meaning.specs.Score as sc
 use Rattle.meaning.specs.Asked.{Asked}
 use Rattle.meaning.specs.Rank.{ranked, kth, insert}
-use Rattle.meaning.specs.Cost.{no_mention, ordered, P, aside, last, at_most, visit_at}
+use Rattle.meaning.specs.Cost.{no_mention, ordered, P, aside, last, at_most}
 use Rattle.meaning.specs.OrderedLaws.{ordered_length}
 use Rattle.meaning.specs.AsideLaws.{last_le}
 use Rattle.meaning.specs.RankLaws.{Under}
 use Rattle.meaning.specs.VisitLaws.{BySome}
 use Rattle.meaning.specs.WalkLaws.{Fit}
-use Rattle.runs.specs.declared.Turn.{Turn}
-use Rattle.runs.specs.declared.Turn.TheVariants.{Finished, Stopped, Entered}
-use Rattle.runs.specs.Reached.{Reached, EndedBy}
-use Rattle.runs.specs.Found.{Found, found_end, found_stop}
-use Rattle.runs.specs.Run.{Run}
-use Rattle.runs.specs.RunLaws.{run_later}
+use Rattle.runs.specs.Reached.{Reached, Ended}
 use Rattle.runs.specs.AnyVisits.{aside_in, aside_in_le, aside_in_low}
 use Rattle.ranking.specs.declared.Table.{Table}
 use Rattle.ranking.specs.Rows.{rows_of}
-use Rattle.ranking.specs.RowsLaws.{stands_under}
 use Rattle.mentions.specs.declared.Mention.{Mention}
 use Rattle.mentions.specs.Mentions.{none, meant, Weighed, by_ceiling, Sums, Rising, aside_of, least_of}
-use Rattle.mentions.specs.MeantLaws.{order_front, by_ceiling_meant, by_ceiling_each, by_ceiling_length, sums_meant, aside_meant}
+use Rattle.mentions.specs.MeantLaws.{order_front, by_ceiling_meant, by_ceiling_each, by_ceiling_length, sums_meant, sums_rise, aside_meant}
 use Rattle.visit.specs.Stand.{Stands, next_at, doc_of}
 use Rattle.visit.specs.StandLaws.{fair_ceiling}
-use Rattle.visit.specs.NextLaws.{doc_none, doc_some}
 use Rattle.visit.proofs.NextLaws.{next_doc}
-use Rattle.visit.specs.Walk.{meant_of, Starts, Leaves, run_of, run_by}
-use Rattle.visit.specs.declared.Visit.{Visit}
-use Rattle.search.specs.Serve.{Served, FoundBy, mode_for}
-use Rattle.search.specs.AnyLaws.{Between, between_starts, between_ends, between_enters, no_earlier, bar_rises, aside_in_up}
-use Rattle.visit.specs.PlacedLaws.{placed_meant, placed_rises}
+use Rattle.visit.specs.Walk.{meant_of, Starts, Leaves, run_by, run_of, Told, IfEntered}
+use Rattle.visit.specs.EndLaws.{if_entered}
+use Rattle.visit.specs.declared.End.TheVariants.{Finished, Stopped, Entered}
+use Rattle.visit.specs.PlacedLaws.{placed_rises}
 use Rattle.visit.specs.StartLaws.{least_next, meant_at, leaves_least}
+use Rattle.visit.specs.declared.Visit.{Visit}
+use Rattle.search.specs.Serve.{Served, asked_of, FoundBy, mode_for}
+use Rattle.search.specs.AnyLaws.{Asks, Between, between_means, between_starts, between_ends, between_enters, no_earlier, bar_rises, aside_in_up}
+use Rattle.search.proofs.Ends.{Enters, ends_finished, ends_stopped, ends_entered, enters_later}
+use lib.Seq.{take-nil}
 
 pub kth_none : (k : ℕ) → kth k [] ≡ 0
 unfolding kth
@@ -114,42 +106,74 @@ module _ {s : List ℕ} {ms : List Mention} {q k N : ℕ} (v : Served s ms q k N
           rw e (aside_meant os q pre sums s weighed (omega (arith, ordered_long, v.few)) b ∙ ap (λ (l : List sc.Mention). aside l b) ordered_meant)
       limit_ranks false limit e b = rw e refl
 
--- what the whole query is served with: its mentions, and the sums of their ceilings in order
-pub record Ground (s : List ℕ) (q k budget N : ℕ) (pruned : Bool) (pre : List ℕ) (limit : ℕ) (first : List Mention) (μs : List sc.Mention) : Type 0 where
-  pub fit : Fit μs
-  pub whole : length μs ≡ q
-  pub order : meant_of s q first ≡ ordered μs
-  pub few : q ≤ 16
-  pub least : 0 < k
-  pub most : k ≤ 64
-  pub docs : N ≡ (index_of s).docs
-  pub small : N < 16777216
-  pub sums : (i : ℕ) → i ≤ q → get_or pre i 0 ≡ P (ordered μs) i
+cond_le : (b : Bool) (q : ℕ) → cond b q 0 ≤ q
+cond_le true q = omega arith
+cond_le false q = omega arith
+
+-- what holds of the query's mentions in order, and of the sums of their ceilings
+pub record Ground (s : List ℕ) (ms : List Mention) (q k N : ℕ) (pruned : Bool) (pre : List ℕ) (limit : ℕ) : Type 0 where
+  pub served : Served s ms q k N
+  pub long : length ms ≡ 16
+  pub sums : (i : ℕ) → i ≤ q → get_or pre i 0 ≡ P (ordered (meant_of s q ms)) i
   pub limited : limit ≤ q
-  pub ranks : (b : ℕ) → aside_of pre limit b ≡ aside_in (mode_for pruned) (ordered μs) b
+  pub ranks : (b : ℕ) → aside_of pre limit b ≡ aside_in (mode_for pruned) (ordered (meant_of s q ms)) b
   pub rises : Rising pre limit
 
-module _ {s : List ℕ} {q k budget N : ℕ} {pruned : Bool} {pre : List ℕ} {limit : ℕ} {first : List Mention} {μs : List sc.Mention} (g : Ground s q k budget N pruned pre limit first μs) where
-  -- what is asked
-  abbrev a : Asked
-  a = record { mode = mode_for pruned; mentions = μs; k = k; budget = budget; docs = N }
+-- before each walk
+pub record Going (s : List ℕ) (ms : List Mention) (q k budget N : ℕ) (pruned : Bool) (pre : List ℕ) (limit : ℕ)
+    (os : List Mention) (table : Table) (count j past : ℕ) : Type 0 where
+  pub ground : Ground s ms q k N pruned pre limit
+  pub here : Between s (asked_of s (mode_for pruned) ms q k budget N) os (rows_of table) count j past
+  pub room : table.k ≡ k
 
-  abbrev pub Here : List Mention → List Row → ℕ → ℕ → ℕ → ℕ → Type 0
-  Here = Between s a (some_by pruned) g.fit q g.whole g.few g.docs g.small
-
-  -- before each walk
-  pub record Going (os : List Mention) (table : Table) (b count j past : ℕ) : Type 0 where
-    pub here : Here os (rows_of table) b count j past
-    pub within : table.len ≤ k
-    pub size : table.len ≡ length (rows_of table)
-
-  -- before the first
-  pub going_first : {table : Table} {j past : ℕ} → length first ≡ 16 → ((x : ℕ) → x < q → Stands s 0 (get_or first x none)) →
-      rows_of table ≡ [] → table.len ≡ 0 → j ≡ aside_of pre limit 0 → past ≡ least_of (drop j (take q first)) → Going first table 0 0 j past
-  unfolding spent ranked
-  going_first {table} {j} {past} long stands none_yet len rank least =
-      let whole : length (ordered μs) ≡ q = ordered_length μs ∙ g.whole in
+module _ {s : List ℕ} {ms : List Mention} {q k N : ℕ} {pruned : Bool} {pre : List ℕ} {limit : ℕ} where
+  -- the first q in order of their ceilings, and how many may be set aside
+  pub ground : {os : List Mention} → Served s ms q k N → length ms ≡ 16 → os ≡ by_ceiling (take q ms) ++ drop q ms → Sums os q pre →
+      limit ≡ cond pruned q 0 → Ground s ms q k N pruned pre limit
+  ground {os} v long ordering sums is =
+      let le : limit ≤ q = rw is (cond_le pruned q) in
       record {
+        served = v;
+        long = long;
+        sums = ordered_sums v long ordering sums;
+        limited = le;
+        ranks = limit_ranks v long ordering sums pruned limit is;
+        rises = λ i h. sums_rise os q pre sums i (omega arith);
+      }
+
+  pub ground_asks : Ground s ms q k N pruned pre limit → (budget : ℕ) → Asks s (asked_of s (mode_for pruned) ms q k budget N) q
+  ground_asks g budget =
+      let v = g.served in
+      record {
+        by = some_by pruned;
+        fit = served_fit v g.long;
+        whole = served_length v g.long;
+        few = v.few;
+        docs = v.all;
+        small = v.small;
+      }
+
+  -- the sum of no ceilings
+  pub first_sum : Ground s ms q k N pruned pre limit → get_or pre 0 0 ≡ 0
+  unfolding P
+  first_sum g = g.sums 0 (omega arith)
+
+  -- before the first walk
+  pub going_first : Ground s ms q k N pruned pre limit → {budget : ℕ} {os : List Mention} {table : Table} {j past : ℕ} →
+      os ≡ by_ceiling (take q ms) ++ drop q ms → rows_of table ≡ [] → table.k ≡ k → j ≡ aside_of pre limit 0 → past ≡ least_of (drop j (take q os)) →
+      Going s ms q k budget N pruned pre limit os table 0 j past
+  unfolding spent ranked
+  going_first g {budget} {os} {table} {j} {past} ordering none_yet room rank least =
+      let v = g.served in
+      let μs = ordered (meant_of s q ms) in
+      let long : length os ≡ 16 = ordered_long v g.long ordering in
+      let order : meant_of s q os ≡ μs = ordered_meant v g.long ordering in
+      let stands = ordered_stands v g.long ordering in
+      let whole : length μs ≡ q = ordered_length (meant_of s q ms) ∙ served_length v g.long in
+      let barred : kth k (rows_of table) ≡ 0 = ap (kth k) none_yet ∙ kth_none k in
+      let ranked : j ≡ aside_in (mode_for pruned) μs (kth k (rows_of table)) = rank ∙ g.ranks 0 ∙ ap (aside_in (mode_for pruned) μs) (sym barred) in
+      record {
+        ground = g;
         here =
             record {
               p = 0;
@@ -157,126 +181,144 @@ module _ {s : List ℕ} {q k budget N : ℕ} {pruned : Bool} {pre : List ℕ} {l
               long = long;
               placed =
                   record {
-                    means = λ x h. meant_at s q first x (rw g.order h) ∙ ap (λ (l : List sc.Mention). get_or l x no_mention) g.order;
-                    aside = λ x h. (0, omega arith, stands x (omega (arith, rank, g.ranks 0, aside_in_le (mode_for pruned) (ordered μs) 0)));
+                    means = λ x h. meant_at s q os x (rw order h) ∙ ap (λ (l : List sc.Mention). get_or l x no_mention) order;
+                    aside = λ x h. (0, omega arith, stands x (omega (arith, ranked, aside_in_le (mode_for pruned) μs (kth k (rows_of table)))));
                     gone = λ x k h. absurd (omega arith);
                     here = λ x k h. stands x (omega arith);
                   };
-              next = least ∙ least_next q j first (omega (arith, g.few)) (λ x k h. stands x h) ∙ ap (λ (l : List sc.Mention). next_at (drop j l) 0) g.order;
+              next = least ∙ least_next q j os (omega (arith, v.few)) (λ x k h. stands x h) ∙ ap (λ (l : List sc.Mention). next_at (drop j l) 0) order;
               reached = record { goes_on = λ e h. absurd (omega arith); counted = refl; ranks = none_yet ∙ sym (take-nil k) };
-              barred = ap (kth k) none_yet ∙ kth_none k;
-              rank = rank ∙ g.ranks 0;
+              rank = ranked;
             };
-        within = omega arith;
-        size = len ∙ sym (ap length none_yet);
+        room = room;
       }
 
-  module _ {os : List Mention} {table : Table} {b count j past : ℕ} (w : Going os table b count j past) where
-    pub going_starts : Starts s os pre j q past count
-    going_starts = between_starts s a (some_by pruned) g.fit q g.whole g.few g.docs g.small os (rows_of table) b count j past w.here pre g.sums
+module _ {s : List ℕ} {ms : List Mention} {q k budget N : ℕ} {pruned : Bool} {pre : List ℕ} {limit : ℕ} {os : List Mention} {table : Table}
+    {count j past : ℕ} (w : Going s ms q k budget N pruned pre limit os table count j past) {b : ℕ} (bar : b ≡ kth table.k (rows_of table)) where
+  abbrev a : Asked
+  a = asked_of s (mode_for pruned) ms q k budget N
 
-    -- P(j) is at most the bar
-    pub rank_low : (j ≤ limit) × (get_or pre j 0 ≤ b)
-    rank_low =
-        let at : j ≡ aside_of pre limit b = w.here.rank ∙ sym (g.ranks b) in
-        let low : P (ordered μs) j ≤ b = rw w.here.rank (aside_in_low (mode_for pruned) (ordered μs) b) in
-        let rank : j ≤ limit = omega (arith, last_le (λ i. at_most b (get_or pre i 0)) limit) in
-        (rank, omega (arith, g.sums j (omega (arith, g.limited))))
+  abbrev μs : List sc.Mention
+  μs = ordered (meant_of s q ms)
 
-    means_now : meant_of s q os ≡ ordered μs
-    means_now = placed_meant w.here.placed (ordered_length μs ∙ g.whole) (omega (arith, w.here.long, g.few))
+  barred : b ≡ kth k (rows_of table)
+  barred = bar ∙ ap (λ (n : ℕ). kth n (rows_of table)) w.room
 
-    module _ (r : Visit) (e : run_of (index_of s).docs r ≡ run_by s (meant_of s q os) b j q budget past count) where
-      ends : (t : Turn) → r.turn ≡ t → EndedBy a (rows_of table) t (doc_of (index_of s).docs r.past) r.sum r.count
-      ends t is =
-          subst (λ (x : Turn). EndedBy a (rows_of table) x (doc_of (index_of s).docs r.past) r.sum r.count) is
-          (between_ends s a (some_by pruned) g.fit q g.whole g.few g.docs g.small os (rows_of table) b count j past w.here (run_of (index_of s).docs r) e)
+  asks : Asks s a q
+  asks = ground_asks w.ground budget
 
-      -- the walk came to its end
-      pub going_finished : r.turn ≡ Finished → FoundBy a (record { table = table; place = N; scored = r.count })
-      going_finished is =
-          record { found = found_end a r.count (rows_of table) (ends Finished is).1; within = w.within; size = w.size }
+  pub going_starts : Starts s os pre j q past count
+  going_starts = between_starts asks w.here pre w.ground.sums
 
-      -- where a document is, the number is the document plus one
-      doc_is : doc_of (index_of s).docs r.past < N → doc_of (index_of s).docs r.past ≡ r.past - 1
-      doc_is below = doc_some (index_of s).docs r.past (λ z. omega (arith, doc_none (index_of s).docs r.past z, g.docs))
+  -- P(j) is at most the bar
+  pub rank_low : (j ≤ limit) × (get_or pre j 0 ≤ b)
+  rank_low =
+      let g = w.ground in
+      let c = kth k (rows_of table) in
+      let at : j ≡ aside_of pre limit c = w.here.rank ∙ sym (g.ranks c) in
+      let low : P μs j ≤ c = rw w.here.rank (aside_in_low (mode_for pruned) μs c) in
+      let rank : j ≤ limit = omega (arith, last_le (λ i. at_most c (get_or pre i 0)) limit) in
+      (rank, omega (arith, barred, g.sums j (omega (arith, g.limited))))
 
-      -- it was stopped
-      pub going_stopped : r.turn ≡ Stopped → FoundBy a (record { table = table; place = r.past - 1; scored = r.count })
-      going_stopped is =
-          let x = ends Stopped is in
-          record {
-            found =
-                subst (λ (d : ℕ). Found a d r.count (rows_of table)) (doc_is x.0)
-                (found_stop a (doc_of (index_of s).docs r.past) r.count (rows_of table) x.0 x.1 x.2);
-            within = w.within;
-            size = w.size;
-          }
+  module _ (r : Visit) (e : run_of (index_of s).docs r ≡ run_by s (meant_of s q os) b j q budget past count) where
+    run_is : run_of (index_of s).docs r ≡ run_by s (meant_of s q os) (kth k (rows_of table)) j q budget past count
+    run_is = e ∙ ap (λ (b : ℕ). run_by s (meant_of s q os) b j q budget past count) barred
 
-      -- a document entered
-      module _ (is : r.turn ≡ Entered) (l : Leaves s (meant_of s q os) j r) where
-        -- the table with document d entered
-        abbrev with_it : ℕ → List Row
-        with_it d = take k (insert (record { doc = d; score = r.sum }) (rows_of table))
+    kept : Ended a (rows_of table) (run_of (index_of s).docs r)
+    kept = between_ends asks w.here run_is
 
-        entered_below : r.past - 1 < N
-        entered_below = let x = (ends Entered is).0 in omega (arith, doc_is x)
+    pub going_finished : r.end ≡ Finished → FoundBy a (record { table = table; place = N; scored = r.count })
+    going_finished = ends_finished a table w.ground.served.all r kept w.room
 
-        entered_reached : Reached a r.past r.count (with_it (r.past - 1))
-        entered_reached =
-            let x = ends Entered is in
-            let there : suc (doc_of (index_of s).docs r.past) ≡ r.past = omega (arith, doc_is x.0, l.some) in
-            subst (λ (d : ℕ). Reached a d r.count (with_it (r.past - 1))) there
-            (subst (λ (d : ℕ). Reached a (suc (doc_of (index_of s).docs r.past)) r.count (with_it d)) (doc_is x.0) x.1)
+    pub going_stopped : {past' : ℕ} → r.end ≡ Stopped past' → FoundBy a (record { table = table; place = past' - 1; scored = r.count })
+    going_stopped = ends_stopped a table w.ground.served.all r kept w.room
 
-        -- the table with it, the bar that it makes, and the mentions that are now set aside
-        pub going_entered : {next : Table} {rank past' : ℕ} → rows_of next ≡ with_it (r.past - 1) → next.len ≤ k → next.len ≡ length (rows_of next) →
-            rank ≡ aside_of pre limit (kth k (rows_of next)) → past' ≡ next_at (drop rank (ordered μs)) r.past → Going r.ms next (kth k (rows_of next)) r.count rank past'
-        going_entered {next} {rank} {past'} rows within size ranks coming =
-            let there : suc (r.past - 1) ≡ r.past = omega (arith, l.some) in
-            record {
-              here =
-                  between_enters s a (some_by pruned) g.fit q g.whole g.few g.docs g.small os (rows_of table) b count j past w.here (run_of (index_of s).docs r) e
-                  (r.past - 1) r.count (doc_is (ends Entered is).0) (rows_of next) entered_below (rw (there, rows) entered_reached)
-                  r.ms l.long l.placed rank past' (ranks ∙ g.ranks (kth k (rows_of next))) (rw there coming);
-              within = within;
-              size = size;
-            }
+    -- a document enters
+    module _ {past' sum next : ℕ} (is : r.end ≡ Entered past' sum next) (told : Told r.end) where
+      abbrev D : ℕ
+      D = doc_of (index_of s).docs past
 
-        -- the walk's next document, where no more are set aside
-        pub coming_same : {rank : ℕ} → rank ≡ j → r.next ≡ next_at (drop rank (ordered μs)) r.past
-        coming_same is_j = l.next ∙ rw (is_j, means_now) refl
+      enters : Enters a (rows_of table) D past' sum r.count
+      enters = ends_entered a table w.ground.served.all r kept (no_earlier asks w.here run_is).1 is told
 
-        pub coming_least : {rank : ℕ} → j ≤ rank → least_of (drop rank (take q r.ms)) ≡ next_at (drop rank (ordered μs)) r.past
-        coming_least {rank} up = leaves_least l (ap length means_now ∙ ordered_length μs ∙ g.whole) g.few rank up ∙ ap (λ (x : List sc.Mention). next_at (drop rank x) r.past) means_now
+      means : meant_of s q os ≡ μs
+      means = between_means asks w.here
 
-        -- every document in the table is an earlier one
-        pub entered_under : Under (r.past - 1) (rows_of table)
-        entered_under =
-            let early = no_earlier s a (some_by pruned) g.fit q g.whole g.few g.docs g.small os (rows_of table) b count j past w.here (run_of (index_of s).docs r) e in
-            each_more (λ (x : Row). x.doc < w.here.p) (λ (x : Row). x.doc < r.past - 1) (λ x h. omega (arith, doc_is (ends Entered is).0)) (rows_of table)
-            (stands_under a w.here.p table w.here.reached.ranks)
+      -- what the walk before it had reached
+      before : w.here.p ≤ past' - 1
+      before = let n = enters in omega (arith, (no_earlier asks w.here run_is).0)
 
-        -- the rank only rises
-        module _ (next : Table) (rows : rows_of next ≡ with_it (r.past - 1)) where
-          risen : b ≤ kth k (rows_of next)
-          risen =
-              let there : suc (r.past - 1) ≡ r.past = omega (arith, l.some) in
-              let early = no_earlier s a (some_by pruned) g.fit q g.whole g.few g.docs g.small os (rows_of table) b count j past w.here (run_of (index_of s).docs r) e in
-              bar_rises s a (some_by pruned) g.fit q g.whole g.few g.docs g.small os (rows_of table) b count j past w.here
-              (r.past - 1) r.count (rows_of next) (omega (arith, doc_is (ends Entered is).0)) (rw (there, rows) entered_reached)
+      pub going_later : Under (past' - 1) (rows_of table)
+      going_later = enters_later table past' before w.here.reached
 
-          pub rank_below : (j ≤ limit) × (get_or pre j 0 ≤ kth k (rows_of next))
-          rank_below = (rank_low.0, omega (arith, rank_low.1, risen))
+      module _ (leaves : IfEntered r.end (λ past sum next. Leaves s (meant_of s q os) j r past next))
+          (put : Table) (rows : rows_of put ≡ take table.k (insert (record { doc = past' - 1; score = sum }) (rows_of table)))
+          (room : put.k ≡ table.k) {b' : ℕ} (bar' : b' ≡ kth put.k (rows_of put)) where
+        left : Leaves s (meant_of s q os) j r past' next
+        left = if_entered (λ past sum next. Leaves s (meant_of s q os) j r past next) is leaves
 
-          pub rank_up : {rank : ℕ} → rank ≡ aside_of pre limit (kth k (rows_of next)) → j ≤ rank
-          rank_up is_rank = omega (arith, w.here.rank, is_rank, g.ranks (kth k (rows_of next)), aside_in_up (mode_for pruned) (ordered μs) b (kth k (rows_of next)) risen)
+        reached : Reached a past' r.count (rows_of put)
+        reached = rw (rows ∙ ap (λ (n : ℕ). take n (insert (record { doc = past' - 1; score = sum }) (rows_of table))) w.room) enters.reached
 
-        -- the next document is a later one
-        pub going_falls : (rank : ℕ) {past' : ℕ} → past' ≡ next_at (drop rank (ordered μs)) r.past → N - doc_of N past' < N - doc_of N past
-        going_falls rank {past'} coming =
-            let x = next_doc (index_of s).docs l.docs (drop rank (ordered μs)) (rw (← means_now) (placed_rises l.placed rank)) r.past past' l.most coming in
-            let D = doc_of (index_of s).docs past in
-            let later = run_later (visit_at (meant_of s q os) b j) b q budget ((index_of s).docs - D) D count in
-            let below = (ends Entered is).0 in
-            rw g.docs (omega (arith, x.later, later, ap (λ (t : Run). t.doc) e, below, doc_is below, l.some, g.docs))
+        barred' : b' ≡ kth k (rows_of put)
+        barred' = bar' ∙ ap (λ (n : ℕ). kth n (rows_of put)) (room ∙ w.room)
+
+        risen : kth k (rows_of table) ≤ kth k (rows_of put)
+        risen = bar_rises asks w.here (omega (arith, before)) reached
+
+        pub rank_below : (j ≤ limit) × (get_or pre j 0 ≤ b')
+        rank_below = (rank_low.0, omega (arith, rank_low.1, risen, barred, barred'))
+
+        module _ {rank : ℕ} (is_rank : rank ≡ aside_of pre limit b') where
+          is_aside : rank ≡ aside_in (mode_for pruned) μs (kth k (rows_of put))
+          is_aside = is_rank ∙ w.ground.ranks b' ∙ ap (aside_in (mode_for pruned) μs) barred'
+
+          -- the rank only rises
+          rank_up : j ≤ rank
+          rank_up =
+              omega (arith, w.here.rank, is_aside, aside_in_up (mode_for pruned) μs (kth k (rows_of table)) (kth k (rows_of put)) risen)
+
+          module _ {coming : ℕ} (is_next : coming ≡ next_at (drop rank μs) past') where
+            entered_at : Going s ms q k budget N pruned pre limit r.ms put r.count rank coming
+            entered_at =
+                let n = enters in
+                record {
+                  ground = w.ground;
+                  here =
+                      between_enters asks w.here (omega (arith, before)) n.some (omega (arith, n.some, n.below)) reached left.long left.placed
+                      is_aside is_next;
+                  room = room ∙ w.room;
+                }
+
+            falls_at : N - doc_of N coming < N - doc_of N past
+            falls_at =
+                let docs = w.ground.served.all in
+                let n = enters in
+                let placed = rw means at (placed_rises left.placed rank) in
+                let x = next_doc (index_of s).docs left.docs (drop rank μs) placed past' coming left.most is_next in
+                rw docs (omega (arith, x.later, n.some, n.later, n.below, docs))
+
+          -- the next document is the lowest at which one that is left stands
+          module _ {coming : ℕ} (least : coming ≡ least_of (drop rank (take q r.ms))) where
+            least_next_is : coming ≡ next_at (drop rank μs) past'
+            least_next_is =
+                let g = w.ground in
+                let whole : length (meant_of s q os) ≡ q = ap length means ∙ ordered_length (meant_of s q ms) ∙ served_length g.served g.long in
+                least ∙ leaves_least left whole g.served.few rank rank_up ∙ ap (λ (x : List sc.Mention). next_at (drop rank x) past') means
+
+            pub least_entered : Going s ms q k budget N pruned pre limit r.ms put r.count rank coming
+            least_entered = entered_at least_next_is
+
+            pub least_falls : N - doc_of N coming < N - doc_of N past
+            least_falls = falls_at least_next_is
+
+        -- the walk's own, where no more are set aside
+        module _ (is_rank : j ≡ aside_of pre limit b') where
+          same_next_is : next ≡ next_at (drop j μs) past'
+          same_next_is = left.next ∙ ap (λ (x : List sc.Mention). next_at (drop j x) past') means
+
+          pub same_entered : Going s ms q k budget N pruned pre limit r.ms put r.count j next
+          same_entered = entered_at is_rank same_next_is
+
+          pub same_falls : N - doc_of N next < N - doc_of N past
+          same_falls = falls_at is_rank same_next_is

@@ -60,116 +60,128 @@ placed_later s os j p D ms pl later before =
           stands_later st D later (omega arith);
     }
 
-module _ (s : List ℕ) (a : Asked) (by : BySome a.mode) (fit : Fit a.mentions) (q : ℕ) (whole : length a.mentions ≡ q) (few : q ≤ 16)
-    (docs : a.docs ≡ (index_of s).docs) (small : a.docs < 16777216) where
-  -- the mentions in order of their ceilings
-  abbrev os : List sc.Mention
-  os = ordered a.mentions
+-- what is known of a query of q mentions over the image s
+pub record Asks (s : List ℕ) (a : Asked) (q : ℕ) : Type 0 where
+  pub by : BySome a.mode
+  pub fit : Fit a.mentions
+  pub whole : length a.mentions ≡ q
+  pub few : q ≤ 16
+  pub docs : a.docs ≡ (index_of s).docs
+  pub small : a.docs < 16777216
 
-  -- before document p: every document below it is done, the mentions stand at it, and the next one is known
-  pub record Between (ms : List Mention) (rows : List Row) (b count j past : ℕ) : Type 0 where
-    pub p : ℕ
-    pub most : p ≤ a.docs
-    pub long : length ms ≡ 16
-    pub placed : Placed s os j j p ms
-    pub next : past ≡ next_at (drop j os) p
-    pub reached : Reached a p count rows
-    pub barred : kth a.k rows ≡ b
-    pub rank : j ≡ aside_in a.mode os b
+-- before document p: every document below it is done, the mentions stand at it, and the next one is known
+pub record Between (s : List ℕ) (a : Asked) (ms : List Mention) (rows : List Row) (count j past : ℕ) : Type 0 where
+  pub p : ℕ
+  pub most : p ≤ a.docs
+  pub long : length ms ≡ 16
+  pub placed : Placed s (ordered a.mentions) j j p ms
+  pub next : past ≡ next_at (drop j (ordered a.mentions)) p
+  pub reached : Reached a p count rows
+  pub rank : j ≡ aside_in a.mode (ordered a.mentions) (kth a.k rows)
 
-  module _ (ms : List Mention) (rows : List Row) (b count j past : ℕ) (w : Between ms rows b count j past) where
-    ranked_le : j ≤ q
-    ranked_le = omega (arith, w.rank, aside_in_le a.mode os b, ordered_length a.mentions)
+module _ {s : List ℕ} {a : Asked} {q : ℕ} (f : Asks s a q) {ms : List Mention} {rows : List Row} {count j past : ℕ}
+    (w : Between s a ms rows count j past) where
+  ranked_le : j ≤ q
+  ranked_le = omega (arith, w.rank, aside_in_le a.mode (ordered a.mentions) (kth a.k rows), ordered_length a.mentions, f.whole)
 
-    means : meant_of s q ms ≡ os
-    means = placed_meant w.placed (ordered_length a.mentions ∙ whole) (omega (arith, w.long))
+  pub between_means : meant_of s q ms ≡ ordered a.mentions
+  between_means = placed_meant w.placed (ordered_length a.mentions ∙ f.whole) (omega (arith, w.long, f.few))
 
-    coming : NextDoc (index_of s).docs (omega (arith, docs)) (drop j os) w.p past (doc_of (index_of s).docs past)
-    coming = next_doc (index_of s).docs (omega (arith, docs)) (drop j os) (placed_rises w.placed j) w.p past (omega (arith, w.most, docs)) w.next
+  coming : NextDoc (index_of s).docs (omega (arith, f.docs, f.small)) (drop j (ordered a.mentions)) w.p past (doc_of (index_of s).docs past)
+  coming =
+      next_doc (index_of s).docs (omega (arith, f.docs, f.small)) (drop j (ordered a.mentions)) (placed_rises w.placed j) w.p past
+      (omega (arith, w.most, f.docs)) w.next
 
-    -- at most 16 postings are scored at each document
-    spare : count ≤ 16 * w.p
-    unfolding cost_at
-    spare =
-        let most = spent_most (cost_at a) q (λ d. omega (arith, cost_le a (bar a d) d, whole)) w.p in
-        let up : w.p * q ≤ w.p * 16 = mul-le-mul (omega arith) few in
-        omega (arith, w.reached.counted)
+  -- at most 16 postings are scored at each document
+  spare : count ≤ 16 * w.p
+  unfolding cost_at
+  spare =
+      let most = spent_most (cost_at a) q (λ d. omega (arith, cost_le a (bar a d) d, f.whole)) w.p in
+      let up : w.p * q ≤ w.p * 16 = mul-le-mul (omega arith) f.few in
+      omega (arith, w.reached.counted)
 
-    pub between_starts : (pre : List ℕ) → ((i : ℕ) → i ≤ q → get_or pre i 0 ≡ P os i) → Starts s ms pre j q past count
-    between_starts pre sums =
-        let D = doc_of (index_of s).docs past in
-        record {
-          few = few;
-          rank = ranked_le;
-          placed = rw means (placed_later s os j w.p D ms w.placed coming.later (omega (arith, coming.before, w.next)));
-          next = rw means coming.stays;
-          sums = λ i h. rw means (sums i (omega (arith, ranked_le)));
-          spare = omega (arith, spare, coming.later);
-        }
+  pub between_starts : (pre : List ℕ) → ((i : ℕ) → i ≤ q → get_or pre i 0 ≡ P (ordered a.mentions) i) → Starts s ms pre j q past count
+  between_starts pre sums =
+      let D = doc_of (index_of s).docs past in
+      record {
+        few = f.few;
+        rank = ranked_le;
+        placed = rw between_means (placed_later s (ordered a.mentions) j w.p D ms w.placed coming.later (omega (arith, coming.before, w.next)));
+        next = rw between_means coming.stays;
+        sums = λ i h. rw between_means (sums i (omega (arith, ranked_le)));
+        spare = omega (arith, spare, coming.later);
+      }
 
+  module _ {r : Run} (e : r ≡ run_by s (meant_of s q ms) (kth a.k rows) j q a.budget past count) where
     -- the run from p on is the run from the next document on
-    run_next : run_from (visit_at os b j) b q a.budget w.p count (a.docs - w.p) ≡ run_by s os b j q a.budget past count
+    run_next : run_from (visit_at (ordered a.mentions) (kth a.k rows) j) (kth a.k rows) q a.budget w.p count (a.docs - w.p) ≡ r
     run_next =
-        let D = doc_of (index_of s).docs past in
-        let v = visit_at os b j in
-        let all : a.docs - w.p ≡ (D - w.p) + ((index_of s).docs - D) = omega (arith, coming.later, coming.most, docs) in
+        let N = (index_of s).docs in
+        let b = kth a.k rows in
+        let D = doc_of N past in
+        let v = visit_at (ordered a.mentions) b j in
+        let all : a.docs - w.p ≡ (D - w.p) + (N - D) = omega (arith, coming.later, coming.most, f.docs) in
         let there : w.p + (D - w.p) ≡ D = omega (arith, coming.later) in
-        let free : (e : ℕ) → w.p ≤ e → e < w.p + (D - w.p) → (v e).count ≡ 0 =
-        λ e g h.
-        let gone = next_none (index_of s).docs (omega (arith, docs)) (drop j os) (placed_rises w.placed j) w.p e g (omega (arith, coming.before, w.next)) in
-        ap (λ (t : Tally). t.count) (unvisited os b e j gone) in
+        let free : (d : ℕ) → w.p ≤ d → d < w.p + (D - w.p) → (v d).count ≡ 0 =
+        λ d g h.
+        let gone = next_none N (omega (arith, f.docs, f.small)) (drop j (ordered a.mentions)) (placed_rises w.placed j) w.p d g (omega (arith, coming.before, w.next)) in
+        ap (λ (t : Tally). t.count) (unvisited (ordered a.mentions) b d j gone) in
         ap (run_from v b q a.budget w.p count) all
-        ∙ run_skips v b q a.budget (D - w.p) w.p count ((index_of s).docs - D) free
-        ∙ ap (λ (d : ℕ). run_from v b q a.budget d count ((index_of s).docs - D)) there
+        ∙ run_skips v b q a.budget (D - w.p) w.p count (N - D) free
+        ∙ ap (λ (d : ℕ). run_from v b q a.budget d count (N - D)) there
+        ∙ ap (λ (l : List sc.Mention). run_by s l b j q a.budget past count) (sym between_means)
+        ∙ sym e
 
     -- what the end of a walk says
-    pub between_ends : (r : Run) → r ≡ run_by s (meant_of s q ms) b j q a.budget past count → Ended a rows r
-    between_ends r e =
-        let v = any_visits a by fit b in
-        let kept = run_keeps a b (visit_at os b (aside_in a.mode os b)) v (a.docs - w.p) w.p count rows w.reached w.barred (omega (arith, w.most)) in
-        let run : run_from (visit_at os b (aside_in a.mode os b)) b (length a.mentions) a.budget w.p count (a.docs - w.p) ≡ r =
-        rw (← w.rank, whole) (run_next ∙ ap (λ (l : List sc.Mention). run_by s l b j q a.budget past count) (sym means) ∙ sym e) in
+    pub between_ends : Ended a rows r
+    between_ends =
+        let b = kth a.k rows in
+        let v = visit_at (ordered a.mentions) b (aside_in a.mode (ordered a.mentions) b) in
+        let kept = run_keeps a b v (any_visits a f.by f.fit b) (a.docs - w.p) w.p count rows w.reached refl (omega (arith, w.most)) in
+        let run : run_from v b (length a.mentions) a.budget w.p count (a.docs - w.p) ≡ r = rw (← w.rank, f.whole) run_next in
         subst (Ended a rows) run kept
 
-    -- the run that a walk tells ends no earlier than at p
-    pub no_earlier : (r : Run) → r ≡ run_by s (meant_of s q ms) b j q a.budget past count → w.p ≤ r.doc
-    no_earlier r e =
-        let D = doc_of (index_of s).docs past in
-        let v = visit_at (meant_of s q ms) b j in
-        let later = run_later v b q a.budget ((index_of s).docs - D) D count in
-        omega (arith, coming.later, ap (λ (x : Run). x.doc) e)
+    -- the run that a walk tells ends no earlier than at the next document, which comes no earlier than p
+    pub no_earlier : (w.p ≤ doc_of (index_of s).docs past) × (doc_of (index_of s).docs past ≤ r.doc)
+    no_earlier =
+        let N = (index_of s).docs in
+        let D = doc_of N past in
+        let later = run_later (visit_at (meant_of s q ms) (kth a.k rows) j) (kth a.k rows) q a.budget (N - D) D count in
+        (coming.later, omega (arith, ap (λ (x : Run). x.doc) e))
 
-    -- the bar has not fallen when a document enters
-    pub bar_rises : (d count' : ℕ) (rows' : List Row) → w.p ≤ d → Reached a (suc d) count' rows' → b ≤ kth a.k rows'
-    bar_rises d count' rows' h r =
-        let then = ap (kth a.k) w.reached.ranks ∙ bar_table a w.p in
-        let now = ap (kth a.k) r.ranks ∙ bar_table a (suc d) in
-        omega (arith, w.barred, bar_grows a w.p (suc d) (omega arith))
+  -- a later document enters: the bar has not fallen
+  pub bar_rises : {past' count' : ℕ} {rows' : List Row} → w.p ≤ past' → Reached a past' count' rows' → kth a.k rows ≤ kth a.k rows'
+  bar_rises {past'} later r' =
+      let then = ap (kth a.k) w.reached.ranks ∙ bar_table a w.p in
+      let now = ap (kth a.k) r'.ranks ∙ bar_table a past' in
+      omega (arith, bar_grows a w.p past' later)
 
-    -- a document has entered: the mentions have gone past it, and those up to the new rank are set aside
-    pub between_enters : (r : Run) → r ≡ run_by s (meant_of s q ms) b j q a.budget past count →
-        (d count' : ℕ) → r.doc ≡ d → (rows' : List Row) → d < a.docs → Reached a (suc d) count' rows' →
-        (ms' : List Mention) → length ms' ≡ 16 → Placed s (meant_of s q ms) j (length (meant_of s q ms)) d ms' →
-        (j' past' : ℕ) → j' ≡ aside_in a.mode os (kth a.k rows') → past' ≡ next_at (drop j' os) (suc d) → Between ms' rows' (kth a.k rows') count' j' past'
-    between_enters r e d count' at rows' below reached ms' long pl j' past' rank next =
-        let up = bar_rises d count' rows' (omega (arith, no_earlier r e)) reached in
-        let grows = aside_in_up a.mode os b (kth a.k rows') up in
-        let pl' : Placed s os j (length os) d ms' = rw means at pl in
-        record {
-          p = suc d;
-          most = below;
-          long = long;
-          placed =
-              record {
-                means = pl'.means;
-                aside = λ x h.
-                    by_order x j (λ l. let y = pl'.aside x l in (y.0, omega (arith, y.1), y.2))
-                    (λ g. (suc d, omega arith, pl'.gone x g (omega (arith, aside_in_le a.mode os (kth a.k rows')))));
-                gone = λ x g h. absurd (omega arith);
-                here = λ x g h. pl'.gone x (omega (arith, w.rank)) h;
-              };
-          next = next;
-          reached = reached;
-          barred = refl;
-          rank = rank;
-        }
+  -- the mentions have gone past it, and those up to the new rank are set aside
+  pub between_enters :
+      {past' count' : ℕ} {rows' : List Row} → w.p ≤ past' → 0 < past' → past' ≤ a.docs → Reached a past' count' rows' →
+      {ms' : List Mention} → length ms' ≡ 16 → Placed s (meant_of s q ms) j (length (meant_of s q ms)) (past' - 1) ms' →
+      {j' next' : ℕ} → j' ≡ aside_in a.mode (ordered a.mentions) (kth a.k rows') → next' ≡ next_at (drop j' (ordered a.mentions)) past' →
+      Between s a ms' rows' count' j' next'
+  between_enters {past'} {count'} {rows'} later some below reached {ms'} long pl {j'} rank next =
+      let os = ordered a.mentions in
+      let grows = aside_in_up a.mode os (kth a.k rows) (kth a.k rows') (bar_rises later reached) in
+      let there : suc (past' - 1) ≡ past' = omega arith in
+      let pl' : Placed s os j (length os) (past' - 1) ms' = rw between_means at pl in
+      let gone = rw there at pl'.gone in
+      record {
+        p = past';
+        most = below;
+        long = long;
+        placed =
+            record {
+              means = pl'.means;
+              aside = λ x h.
+                  by_order x j (λ l. let y = pl'.aside x l in (y.0, omega (arith, y.1), y.2))
+                  (λ g. (past', omega arith, gone x g (omega (arith, aside_in_le a.mode os (kth a.k rows')))));
+              gone = λ x g h. absurd (omega arith);
+              here = λ x g h. gone x (omega (arith, w.rank)) h;
+            };
+        next = next;
+        reached = reached;
+        rank = rank;
+      }

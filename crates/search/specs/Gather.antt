@@ -11,15 +11,14 @@ pub record Begins (s : List ℕ) (term weight : ℕ) (m : Mention) : Type 0 wher
   pub weighs : m.weight ≡ weight
   pub stands : Stands s 0 m
 
--- the q pairs from number `at` of a sheet on are there, and as an accepted sheet has them
-pub record Pairs (s sheet : List ℕ) (at q : ℕ) : Type 0 where
+-- the first q of these pairs, a term and a weight each, are as an accepted sheet has them
+pub record Pairs (s pairs : List ℕ) (q : ℕ) : Type 0 where
   pub few : q ≤ 16
-  pub all : at + 2 * q ≤ length sheet
-  pub term : (i : ℕ) → i < q → get_or sheet (at + 2 * i) 0 < length (index_of s).terms
-  pub least : (i : ℕ) → i < q → 0 < get_or sheet (at + 2 * i + 1) 0
-  pub most : (i : ℕ) → i < q → get_or sheet (at + 2 * i + 1) 0 ≤ 255
+  pub term : (i : ℕ) → i < q → get_or pairs (2 * i) 0 < length (index_of s).terms
+  pub least : (i : ℕ) → i < q → 0 < get_or pairs (2 * i + 1) 0
+  pub most : (i : ℕ) → i < q → get_or pairs (2 * i + 1) 0 ≤ 255
 
--- the array holds the mentions of these pairs, each at its list's first posting
-pub record Gathered (s sheet : List ℕ) (at q : ℕ) (ms : List Mention) : Type 0 where
+-- the array holds the mentions of the first q of these pairs, each at its list's first posting
+pub record Gathered (s pairs : List ℕ) (q : ℕ) (ms : List Mention) : Type 0 where
   pub size : length ms ≡ 16
-  pub begins : (i : ℕ) → i < q → Begins s (get_or sheet (at + 2 * i) 0) (get_or sheet (at + 2 * i + 1) 0) (get_or ms i none)
+  pub begins : (i : ℕ) → i < q → Begins s (get_or pairs (2 * i) 0) (get_or pairs (2 * i + 1) 0) (get_or ms i none)

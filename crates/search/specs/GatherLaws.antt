@@ -1,7 +1,7 @@
 -- A list just opened is a mention that begins, and the mentions of a query's pairs are those that the written rule speaks of.
 use Rattle.std.specs.Prelude.{◌≡◌, refl, List, [], ◌∷◌, map, ℕ, zero, suc, ◌+◌, ◌*◌, ◌≤◌, ◌<◌, length, get_or, set}
 use Rattle.std.proofs.Math.Path.{sym}
-use Rattle.std.proofs.Common.{ap, ◌∙◌, add-zero, mul-le-mul, arith, length-set, get_or-set_same, get_or-set_other}
+use Rattle.std.proofs.Common.{ap, ◌∙◌, add-zero, zero-add, mul-le-mul, arith, length-set, get_or-set_same, get_or-set_other}
 use Rattle.lists.specs.Tests.{by_order}
 use Rattle.meaning.specs.Judged.{good}
 use Rattle.meaning.specs.Image.{image_of, index_of, Accepted}
@@ -50,31 +50,31 @@ module _ (s : List ℕ) (ok : Accepted s) (term : ℕ) (below : term < length (i
 
 -- "each mention counts with its own weight and its own postings"
 begun_meant :
-    (s sheet : List ℕ) (at q : ℕ) (ms : List Mention) → q ≤ length ms →
-    ((i : ℕ) → i < q → Begins s (get_or sheet (at + 2 * i) 0) (get_or sheet (at + 2 * i + 1) 0) (get_or ms i none)) →
-    meant_of s q ms ≡ map (mention_of (index_of s)) (pairs_from sheet at q)
+    (s pairs : List ℕ) (at q : ℕ) (ms : List Mention) → q ≤ length ms →
+    ((i : ℕ) → i < q → Begins s (get_or pairs (at + 2 * i) 0) (get_or pairs (at + 2 * i + 1) 0) (get_or ms i none)) →
+    meant_of s q ms ≡ map (mention_of (index_of s)) (pairs_from pairs at q)
 unfolding pairs_from
-begun_meant s sheet at zero ms le b = refl
-begun_meant s sheet at (suc q) [] le b = absurd (omega arith)
-begun_meant s sheet at (suc q) (m ∷ ms) le b =
+begun_meant s pairs at zero ms le b = refl
+begun_meant s pairs at (suc q) [] le b = absurd (omega arith)
+begun_meant s pairs at (suc q) (m ∷ ms) le b =
     let first = rw (add-zero at) at (b 0 (omega arith)) in
-    let next : (i : ℕ) → i < q → Begins s (get_or sheet (at + 2 + 2 * i) 0) (get_or sheet (at + 2 + 2 * i + 1) 0) (get_or ms i none) =
+    let next : (i : ℕ) → i < q → Begins s (get_or pairs (at + 2 + 2 * i) 0) (get_or pairs (at + 2 + 2 * i + 1) 0) (get_or ms i none) =
     λ i h. let e : at + 2 * suc i ≡ at + 2 + 2 * i = omega arith in rw e at (b (suc i) (omega arith)) in
-    rw (first.list, first.weighs, begun_meant s sheet (at + 2) q ms (omega arith) next)
+    rw (first.list, first.weighs, begun_meant s pairs (at + 2) q ms (omega arith) next)
 
 pub gathered_meant :
-    (s sheet : List ℕ) (at q : ℕ) (ms : List Mention) → Gathered s sheet at q ms → q ≤ 16 →
-    meant_of s q ms ≡ map (mention_of (index_of s)) (pairs_from sheet at q)
-gathered_meant s sheet at q ms g few = begun_meant s sheet at q ms (omega (arith, g.size)) g.begins
+    (s pairs : List ℕ) (q : ℕ) (ms : List Mention) → Gathered s pairs q ms → q ≤ 16 →
+    meant_of s q ms ≡ map (mention_of (index_of s)) (pairs_from pairs 0 q)
+gathered_meant s pairs q ms g few = begun_meant s pairs 0 q ms (omega (arith, g.size)) (λ i h. rw zero-add (g.begins i h))
 
 -- the array is filled from its first place on
-pub gathered_none : (s sheet : List ℕ) (at : ℕ) (ms : List Mention) → length ms ≡ 16 → Gathered s sheet at 0 ms
-gathered_none s sheet at ms size = record { size = size; begins = λ i h. absurd (omega arith) }
+pub gathered_none : (s pairs : List ℕ) (ms : List Mention) → length ms ≡ 16 → Gathered s pairs 0 ms
+gathered_none s pairs ms size = record { size = size; begins = λ i h. absurd (omega arith) }
 
 pub gathered_more :
-    (s sheet : List ℕ) (at i : ℕ) (ms : List Mention) (m : Mention) → Gathered s sheet at i ms → i < 16 →
-    Begins s (get_or sheet (at + 2 * i) 0) (get_or sheet (at + 2 * i + 1) 0) m → Gathered s sheet at (i + 1) (set ms i m)
-gathered_more s sheet at i ms m g h b =
+    (s pairs : List ℕ) (i : ℕ) (ms : List Mention) (m : Mention) → Gathered s pairs i ms → i < 16 →
+    Begins s (get_or pairs (2 * i) 0) (get_or pairs (2 * i + 1) 0) m → Gathered s pairs (i + 1) (set ms i m)
+gathered_more s pairs i ms m g h b =
     record {
       size = simp length-set g.size;
       begins = λ x below.

@@ -46,6 +46,5 @@ module _ (a : Asked) (one : length a.mentions ≡ 1) where
       let by = f.found in
       record {
         found = record { stands = rw one_costs by.stands; ranks = rw (one_ranked r.place) by.ranks; counts = rw one_costs by.counts };
-        within = f.within;
-        size = f.size;
+        room = f.room;
       }

@@ -5,7 +5,7 @@ use Rattle.sheet.specs.declared.Record.{Record}
 use Rattle.sheet.specs.QueryLaws.{RecordFits}
 
 -- an accepted image s with its number of documents, and the record of a query of a sheet that is accepted for it
-pub record Posed (s sheet : List ℕ) (query : Record) (docs : ℕ) : Type 0 where
+pub record Posed (s : List ℕ) (query : Record) (docs : ℕ) : Type 0 where
   pub image : Accepted s
   pub all : docs ≡ (index_of s).docs
-  pub fits : RecordFits sheet (length (index_of s).terms) query
+  pub fits : RecordFits (length (index_of s).terms) query

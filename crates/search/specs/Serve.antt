@@ -1,5 +1,5 @@
 -- What a query's walk is served with, and what it has found when it ends.
-use Rattle.std.specs.Prelude.{ℕ, ◌≤◌, ◌<◌, ◌≡◌, Bool, true, false, List, length, get_or}
+use Rattle.std.specs.Prelude.{ℕ, ◌≤◌, ◌<◌, ◌≡◌, Bool, true, false, List, get_or}
 use Rattle.meaning.specs.declared.Mode.{Mode}
 use Rattle.meaning.specs.declared.Mode.TheVariants.{Plain, Pruned}
 use Rattle.meaning.specs.Image.{index_of}
@@ -31,8 +31,7 @@ mode_for false = Plain
 abbrev pub asked_of : List ℕ → Mode → List Mention → ℕ → ℕ → ℕ → ℕ → Asked
 asked_of s mode ms q k budget docs = record { mode = mode; mentions = meant_of s q ms; k = k; budget = budget; docs = docs }
 
--- the place, the postings scored and the rows are those of the mode's written rule
+-- the place, the postings scored and the rows are those of the mode's written rule, and the table has the room that is asked for
 pub record FoundBy (a : Asked) (r : Found) : Type 0 where
   pub found : runs.Found a r.place r.scored (rows_of r.table)
-  pub within : r.table.len ≤ a.k
-  pub size : r.table.len ≡ length (rows_of r.table)
+  pub room : r.table.k ≡ a.k

@@ -1,12 +1,16 @@
--- A stretch filled row by row: what stands in it after i rows, and that k rows fill it.
-use Rattle.std.specs.Prelude.{◌≡◌, refl, List, [], ◌∷◌, ◌++◌, ℕ, zero, suc, ◌+◌, ◌*◌, ◌≤◌, ◌<◌, length, get_or, take, set}
-use Rattle.std.proofs.Common.{sym, ap, ◌∙◌, append-nil, append_assoc, arith, length-take, take_all, get_or-take}
-use Rattle.std.proofs.Math.ListN.{get_or-eq_default}
+-- A stretch filled row by row: what stands in it after i rows, and that zeros after all of them fill it.
+use Rattle.std.specs.Prelude.{◌≡◌, refl, List, [], ◌∷◌, ◌++◌, ℕ, zero, suc, ◌+◌, ◌-◌, ◌*◌, ◌≤◌, length, get_or, take, set, replicate}
+use Rattle.std.proofs.Common.{sym, ap, ◌∙◌, append-nil, append_assoc, arith}
 use Rattle.meaning.specs.declared.Row.{Row}
 use Rattle.meaning.specs.Rank.{no_row}
 use Rattle.meaning.specs.Answer.{filled}
+use Rattle.ranking.specs.Rows.{rows_of}
+use Rattle.search.specs.declared.Found.{Found}
 
 -- "place, rows found, postings scored"
+abbrev pub three_of : Found → List ℕ
+three_of f = f.place ∷ length (rows_of f.table) ∷ f.scored ∷ []
+
 pub three_first : (out : List ℕ) (a b c : ℕ) → 3 ≤ length out → take 3 (set (set (set out 0 a) 1 b) 2 c) ≡ a ∷ b ∷ c ∷ []
 three_first [] a b c h = absurd (omega arith)
 three_first (x ∷ []) a b c h = absurd (omega arith)
@@ -32,13 +36,6 @@ filled_more : (i : ℕ) (rows : List Row) (front : List ℕ) →
     (front ++ filled i rows) ++ ((get_or rows i no_row).doc ∷ (get_or rows i no_row).score ∷ []) ≡ front ++ filled (suc i) rows
 filled_more i rows front = append_assoc front (filled i rows) _ ∙ ap (λ (l : List ℕ). front ++ l) (filled_next i rows)
 
--- row i of a table of n rows, and what is written past its last
-pub row_here : (n i : ℕ) (rows : List Row) → i < n → get_or rows i no_row ≡ get_or (take n rows) i no_row
-row_here n i rows h = sym (get_or-take n rows i no_row h)
-
-pub row_past : (n i : ℕ) (rows : List Row) → n ≤ i → no_row ≡ get_or (take n rows) i no_row
-row_past n i rows h = sym (get_or-eq_default (take n rows) no_row (simp length-take (omega arith)))
-
 -- the first three numbers, and i rows
 abbrev pub WrittenTo : List ℕ → List Row → ℕ → List ℕ → Type 0
 WrittenTo front rows i out = take (3 + 2 * i) out ≡ front ++ filled i rows
@@ -56,6 +53,26 @@ written_more front out rows i r h same w =
     let next : i + 1 ≡ suc i = omega arith in
     rw (more, second, next, two_more out (3 + 2 * i) r.doc r.score h, w, same) (filled_more i rows front)
 
--- all of it
-pub written_all : (front out : List ℕ) (rows : List Row) (k : ℕ) → length out ≡ 3 + 2 * k → WrittenTo front rows k out → out ≡ front ++ filled k rows
-written_all front out rows k size w = sym (take_all (3 + 2 * k) out (omega arith)) ∙ w
+-- the zeros past the rows
+filled_none : (k : ℕ) → filled k [] ≡ replicate (2 * k) 0
+unfolding filled
+filled_none zero = refl
+filled_none (suc k) =
+    let two : 2 * suc k ≡ suc (suc (2 * k)) = omega arith in
+    rw (two, filled_none k)
+
+filled_rest : (k : ℕ) (rows : List Row) → length rows ≤ k → filled (length rows) rows ++ replicate (2 * (k - length rows)) 0 ≡ filled k rows
+unfolding filled
+filled_rest k [] h = let whole : k - 0 ≡ k = omega arith in rw (whole, filled_none k)
+filled_rest zero (r ∷ rows) h = absurd (omega arith)
+filled_rest (suc k) (r ∷ rows) h =
+    let left : suc k - suc (length rows) ≡ k - length rows = omega arith in
+    rw (left, filled_rest k rows (omega arith))
+
+-- all of it, once the rest is zeros
+pub written_all :
+    (front out : List ℕ) (rows : List Row) (k : ℕ) → length rows ≤ k → length out ≡ 3 + 2 * k → WrittenTo front rows (length rows) out →
+    take (3 + 2 * length rows) out ++ replicate (length out - (3 + 2 * length rows)) 0 ≡ front ++ filled k rows
+written_all front out rows k few size w =
+    let left : length out - (3 + 2 * length rows) ≡ 2 * (k - length rows) = omega arith in
+    rw (w, left) (append_assoc front _ _ ∙ ap (λ (l : List ℕ). front ++ l) (filled_rest k rows few))

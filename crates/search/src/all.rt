@@ -3,8 +3,11 @@
 ghost use Rattle.meaning.specs.declared.Mode.TheVariants.{All};
 ghost use Rattle.search.specs.Serve.{Served, asked_of, FoundBy};
 
+use crate::Found;
+use meet::ByPostingsLeft;
 use mentions::Mention;
-use runs::Turn;
+use ranking::Table;
+use visit::End;
 
 // A query in mode 2.
 pub fn all_term(
@@ -14,42 +17,35 @@ pub fn all_term(
     k: usize,
     budget: u32,
     docs: u32,
-) -> super::Found
+) -> Found
     requires { Served image.now ms q k docs }
     ensures { FoundBy (asked_of image.now All ms q k budget docs) result }
 {
-    let mut os = meet::lead(ms, q);
-    let mut table = ranking::empty();
-    let mut bar: u32 = 0;
-    let mut count: u32 = 0;
-    let mut past: u32 = 1;
-    loop {
-        let visit = meet::meet(image, os, q, past, count, bar, budget);
+    let mut ms = mentions::order::<ByPostingsLeft>(ms, q);
+    let mut table = Table::empty(k);
+    let mut count = 0;
+    let mut past = 1;
+    let place = loop {
+        let bar = table.bar();
+        let visit = meet::meet(image, ms, q, past, count, bar, budget);
         count = visit.count;
-        let turn = visit.turn;
-        match turn {
-            Turn::Finished => {
-                return super::Found {
-                    table: table,
-                    place: docs,
-                    scored: count,
-                };
-            }
-            Turn::Stopped => {
-                return super::Found {
-                    table: table,
-                    place: visit.past - 1,
-                    scored: count,
-                };
-            }
-            Turn::Entered => {
-                let next = table.insert(k, visit.past - 1, visit.sum);
-                table = next;
-                bar = table.bar(k);
-                let moved = visit.ms;
-                os = moved;
-                past = visit.next;
+        match visit.end {
+            End::Finished => break docs,
+            End::Stopped { past } => break past - 1,
+            End::Entered {
+                past: entered,
+                sum,
+                next,
+            } => {
+                table.insert(entered - 1, sum);
+                ms = visit.ms;
+                past = next;
             }
         }
+    };
+    Found {
+        table,
+        place,
+        scored: count,
     }
 }

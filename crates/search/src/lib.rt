@@ -17,7 +17,7 @@ use ranking::Table;
 use sheet::Record;
 
 // What a query's walk has found when it ends: the table, the place, and the postings scored.
-#[derive(Clone, Copy)]
+#[derive(Drop)]
 pub struct Found {
     pub table: Table,
     pub place: u32,
@@ -25,14 +25,14 @@ pub struct Found {
 }
 
 // One query of an accepted sheet over an accepted image, into its own stretch of the answer row.
-pub fn answer_query(image: &[u8], sheet: &[u32], query: Record, docs: u32, out: &mut [u32])
-    requires { Posed image.now sheet.now query docs × (length out.old ≡ 3 + 2 * query.k) }
-    ensures { out.new ≡ answer (index_of image.now) (record_of sheet.now query) }
+pub fn answer_query(image: &[u8], query: Record, docs: u32, out: &mut [u32])
+    requires { Posed image.now query docs × (length out.old ≡ 3 + 2 * query.k) }
+    ensures { out.new ≡ answer (index_of image.now) (record_of query.entry) }
 {
-    let q = query.q;
+    let q = query.terms();
     let k = query.k;
     let budget = query.budget;
-    let ms = gather::gather(image, sheet, query.pairs, q);
+    let ms = gather::gather(image, query.pairs);
     let mode = query.mode;
     let found = match mode {
         Mode::Plain => any::any_term(image, ms, q, k, budget, docs, false),
@@ -44,5 +44,5 @@ pub fn answer_query(image: &[u8], sheet: &[u32], query: Record, docs: u32, out: 
             all::all_term(image, ms, q, k, budget, docs)
         },
     };
-    write::write(found, k, out);
+    write::write(&found, out);
 }

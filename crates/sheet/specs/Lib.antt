@@ -1,5 +1,5 @@
 pub mod Verdict
-pub mod Extent
+pub mod Numbers
 pub mod Record
 pub mod QueryLaws
 pub mod Standing

@@ -5,9 +5,10 @@ use Rattle.std.proofs.Common.{sym, ◌∙◌, zero-add}
 use mathlib.Core.List.{List, [], ◌∷◌}
 use Prim.Native.Nat.{ℕ, zero, suc, ◌+◌, ◌*◌, ◌≤◌, ◌<◌}
 use Rattle.std.proofs.Math.Nat.{add-zero}
+use Rattle.std.proofs.Common.{add_assoc, get_or-take, get_or-drop, length-drop, length-take-le}
 use native.Mathlib.Omega.{arith}
 use Rattle.std.proofs.Math.ListN.{length}
-use Rattle.std.specs.Prelude.{get_or, take, eqb}
+use Rattle.std.specs.Prelude.{get_or, take, drop, eqb}
 use Rattle.meaning.specs.Judged.{Judged, good, bad, ◌>>=◌}
 use Rattle.meaning.specs.JudgedLaws.{bind_good, need_good, good_same}
 use Rattle.meaning.specs.Sheet.{Pair, Query, within, numbers_of, query_at, queries_at, sheet_of}
@@ -16,7 +17,7 @@ use Rattle.meaning.specs.SheetLaws.{query_good, pair_at_lem, sheet_good, query_a
 use Rattle.meaning.specs.Call.{needed}
 use Rattle.sheet.specs.declared.Record.{Record}
 use Rattle.sheet.specs.Verdict.{needed_of}
-use Rattle.sheet.specs.Record.{Readable, IsRecord, pair_at, pairs_from, query_from, record_of}
+use Rattle.sheet.specs.Record.{Readable, IsRecord, pair_at, pairs_from, query_from, terms_in, record_of}
 
 -- where a reading is carried on with no further test, its fault is the fault, and what is accepted comes of what was read
 pub only_good : {A B : Type 0} (j : Judged A) (f : A → B) (b : B) → good b ≡ (j >>= λ a. good (f a)) → (a : A) × (j ≡ good a) × (f a ≡ b)
@@ -44,7 +45,7 @@ module _ (s : List ℕ) where
       rw e (pairs_at_lem (at + 2) q j d (omega arith))
 
   -- pairs that fit are those, and a query without fault is what stands there
-  pairs_are : (T at : ℕ) (ps : List Pair) → PairsFit s T at ps → pairs_from s at (length ps) ≡ ps
+  pub pairs_are : (T at : ℕ) (ps : List Pair) → PairsFit s T at ps → pairs_from s at (length ps) ≡ ps
   unfolding pairs_from
   pairs_are T at [] f = refl
   pairs_are T at (p ∷ ps) f = rw (← f.0.term, ← f.0.weight, pairs_are T (at + 2) ps f.1)
@@ -54,32 +55,53 @@ module _ (s : List ℕ) where
       let f = query_good s T i at q e in
       rw (← f.mode, ← f.k, ← f.budget, ← f.count, pairs_are T (at + 4) q.pairs f.pairs)
 
-  -- a record has as many terms as the query that it stands for
-  pub record_terms : (r : Record) (q : Query) → record_of s r ≡ q → r.q ≡ length q.pairs
-  record_terms r q e = sym (pairs_length r.pairs r.q) ∙ ap (λ (x : Query). length x.pairs) e
+-- the pairs of a part of a sheet
+pub pairs_part :
+    (s : List ℕ) (from n at q : ℕ) → at + 2 * q ≤ n → pairs_from (take n (drop from s)) at q ≡ pairs_from s (from + at) q
+unfolding pairs_from
+pairs_part s from n at zero h = refl
+pairs_part s from n at (suc q) h =
+    let term : at < n = omega arith in
+    let weight : at + 1 < n = omega arith in
+    simp (get_or-take, get_or-drop, add_assoc, pairs_part s from n (at + 2) q (omega arith))
+
+-- a record has as many terms as the query that it stands for
+pub record_terms : (r : Record) (q : Query) → record_of r ≡ q → terms_in r ≡ length q.pairs
+record_terms r q e = sym (pairs_length r.pairs.now 0 (terms_in r)) ∙ ap (λ (x : Query). length x.pairs) e
+
+-- the pairs that follow a query's four numbers
+pub pairs_size :
+    (s : List ℕ) (T i at : ℕ) (q : Query) (ps : List ℕ) → query_at s T i at ≡ good q → ps ≡ take (2 * get_or s (at + 3) 0) (drop (at + 4) s) →
+    length ps ≡ 2 * length q.pairs
+pairs_size s T i at q ps e p =
+    let f = query_good s T i at q e in
+    let few : 2 * get_or s (at + 3) 0 ≤ length (drop (at + 4) s) = simp length-drop (omega arith) in
+    omega (arith, f.count, ap length p, length-take-le _ _ few)
 
 -- what is known of a record that was read from a sheet for T terms
-pub record RecordFits (s : List ℕ) (T : ℕ) (r : Record) : Type 0 where
+pub record RecordFits (T : ℕ) (r : Record) : Type 0 where
   pub rows : Within 1 64 r.k
-  pub terms : Within 1 16 r.q
-  pub all : r.pairs + 2 * r.q ≤ length s
-  pub pair : (j : ℕ) → j < r.q → PairFits s T (r.pairs + 2 * j) (pair_at s (r.pairs + 2 * j))
+  pub terms : Within 1 16 (terms_in r)
+  pub whole : length r.pairs.now ≡ 2 * terms_in r
+  pub pair : (j : ℕ) → j < terms_in r → PairFits r.pairs.now T (2 * j) (pair_at r.pairs.now (2 * j))
 
 pub record_fits :
-    (s : List ℕ) (T i at : ℕ) (q : Query) (r : Record) → query_at s T i at ≡ good q → IsRecord s at r → RecordFits s T r
+    (s : List ℕ) (T i at : ℕ) (q : Query) (r : Record) → query_at s T i at ≡ good q → IsRecord s at r → RecordFits T r
 record_fits s T i at q r e is =
     let f = query_good s T i at q e in
-    let same : record_of s r ≡ q = is.0 T i q e in
-    let ps : pairs_from s r.pairs r.q ≡ q.pairs = ap (λ (x : Query). x.pairs) same in
+    let same : record_of r ≡ q = is.0 T i q e in
+    let ps : pairs_from r.pairs.now 0 (terms_in r) ≡ q.pairs = ap (λ (x : Query). x.pairs) same in
     let k : r.k ≡ q.k = ap (λ (x : Query). x.k) same in
-    let n = record_terms s r q same in
+    let n = record_terms r q same in
     record {
       rows = omega arith;
       terms = omega arith;
-      all = omega (arith, is.1);
+      whole = omega (arith, pairs_size s T i at q r.pairs.now e is.1);
       pair = λ j h.
-          rw (← pairs_at_lem s r.pairs r.q j (pair_at s 0) h, ps, is.1)
-          (pair_at_lem s T (at + 4) q.pairs f.pairs j (omega arith) (pair_at s 0));
+          let here : get_or q.pairs j (pair_at s 0) ≡ pair_at r.pairs.now (2 * j) =
+          rw (← ps, ← zero-add (2 * j)) (pairs_at_lem r.pairs.now 0 (terms_in r) j (pair_at s 0) h) in
+          let g = rw here at (pair_at_lem s T (at + 4) q.pairs f.pairs j (omega arith) (pair_at s 0)) in
+          record { term = refl; weight = refl; below = g.below; weighs = g.weighs };
     }
 
 -- where a record can be read, its four numbers are there

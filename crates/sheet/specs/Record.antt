@@ -1,5 +1,5 @@
 -- The query that a record stands for, where a record can be read, and what reading one gives.
-use Rattle.std.specs.Prelude.{ℕ, zero, suc, ◌+◌, ◌≡◌, List, [], ◌∷◌, get_or}
+use Rattle.std.specs.Prelude.{ℕ, zero, suc, ◌+◌, ◌*◌, ◌/◌, ◌≡◌, List, [], ◌∷◌, length, get_or, take, drop}
 use Rattle.meaning.specs.Judged.{good}
 use Rattle.meaning.specs.Sheet.{Pair, Query, mode_of, query_at}
 use Rattle.sheet.specs.declared.Record.{Record}
@@ -23,9 +23,13 @@ query_from s at =
       pairs = pairs_from s (at + 4) (get_or s (at + 3) 0);
     }
 
--- the query that a record of the sheet s stands for
-abbrev pub record_of : List ℕ → Record → Query
-record_of s r = record { mode = r.mode; k = r.k; budget = r.budget; pairs = pairs_from s r.pairs r.q }
+-- how many terms a record has
+abbrev pub terms_in : Record → ℕ
+terms_in r = length r.pairs.now / 2
+
+-- the query that a record stands for
+abbrev pub record_of : Record → Query
+record_of r = record { mode = r.mode; k = r.k; budget = r.budget; pairs = pairs_from r.pairs.now 0 (terms_in r) }
 
 -- a query without fault stands at number `at`: query i of a sheet for T terms
 pub record Readable (s : List ℕ) (at : ℕ) : Type 0 where
@@ -34,6 +38,8 @@ pub record Readable (s : List ℕ) (at : ℕ) : Type 0 where
   pub query : Query
   pub fine : query_at s T i at ≡ good query
 
--- r stands for the query at number `at`, whichever query of a sheet for however many terms it is judged as; and its pairs follow its four numbers
+-- r stands for the query at number `at`, whichever query of a sheet for however many terms it is judged as; and its pairs are those that follow
+-- its four numbers
 abbrev pub IsRecord : List ℕ → ℕ → Record → Type 0
-IsRecord s at r = ((T i : ℕ) (q : Query) → query_at s T i at ≡ good q → record_of s r ≡ q) × (r.pairs ≡ at + 4)
+IsRecord s at r =
+    ((T i : ℕ) (q : Query) → query_at s T i at ≡ good q → record_of r ≡ q) × (r.pairs.now ≡ take (2 * get_or s (at + 3) 0) (drop (at + 4) s))

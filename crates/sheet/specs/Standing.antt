@@ -8,7 +8,7 @@ use Rattle.meaning.specs.SheetFits.{QueriesFit}
 use Rattle.meaning.specs.SheetLaws.{query_good, sheet_good}
 use Rattle.sheet.specs.declared.Record.{Record}
 use Rattle.sheet.specs.Record.{Readable, IsRecord, query_from}
-use Rattle.sheet.specs.QueryLaws.{RecordFits, record_fits, record_terms, query_here}
+use Rattle.sheet.specs.QueryLaws.{RecordFits, record_fits, pairs_size, query_here}
 
 -- query i of the accepted sheet s stands at number `at`
 pub record Standing (s : List ℕ) (T : ℕ) (qs : List Query) (i at : ℕ) : Type 0 where
@@ -30,6 +30,10 @@ numbers_next (q ∷ qs) (suc i) h d =
     let e : suc i + 1 ≡ suc (i + 1) = omega arith in
     rw e (omega (arith, numbers_next qs i (omega arith) d))
 
+-- an accepted sheet's first number is the number of its queries
+pub standing_count : (s : List ℕ) (T : ℕ) (qs : List Query) (i at : ℕ) → Standing s T qs i at → length qs ≡ get_or s 0 0
+standing_count s T qs i at st = (sheet_good s T qs st.fine).count
+
 module _ (s : List ℕ) (T : ℕ) (qs : List Query) (i at : ℕ) (st : Standing s T qs i at) (h : i < length qs) where
   pub standing_query : (d : Query) → query_at s T i at ≡ good (get_or qs i d)
   standing_query d = rw st.place (query_here s T qs st.fine i h d)
@@ -38,14 +42,19 @@ module _ (s : List ℕ) (T : ℕ) (qs : List Query) (i at : ℕ) (st : Standing 
   standing_readable = let d = query_from s 0 in record { T = T; i = i; query = get_or qs i d; fine = standing_query d }
 
   module _ (r : Record) (is : IsRecord s at r) where
-    pub standing_fits : RecordFits s T r
+    pub standing_fits : RecordFits T r
     standing_fits = let d = query_from s 0 in record_fits s T i at (get_or qs i d) r (standing_query d) is
 
-    pub standing_next : Standing s T qs (i + 1) (r.pairs + 2 * r.q)
+    -- its pairs are all on the sheet
+    pub standing_inside : at + 4 + length r.pairs.now ≤ length s
+    standing_inside =
+        let d = query_from s 0 in
+        omega (arith, pairs_size s T i at (get_or qs i d) r.pairs.now (standing_query d) is.1, (query_good s T i at (get_or qs i d) (standing_query d)).all)
+
+    pub standing_next : Standing s T qs (i + 1) (at + 4 + length r.pairs.now)
     standing_next =
         let d = query_from s 0 in
-        let n = record_terms s r (get_or qs i d) (is.0 T i (get_or qs i d) (standing_query d)) in
-        record { fine = st.fine; place = omega (arith, is.1, st.place, numbers_next qs i h d) }
+        record { fine = st.fine; place = omega (arith, pairs_size s T i at (get_or qs i d) r.pairs.now (standing_query d) is.1, st.place, numbers_next qs i h d) }
 
 -- "numbers missing or left over": the queries of an accepted sheet take all its numbers
 all_numbers : (s : List ℕ) (T at : ℕ) (qs : List Query) → QueriesFit s T at qs → at + numbers_of qs ≡ length s

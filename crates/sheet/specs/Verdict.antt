@@ -1,15 +1,8 @@
 -- What judging a sheet says, as the paper's numbers: a fault's number and place, or how many numbers the answers fill; and refusal 15.
 use Rattle.std.specs.Prelude.{ℕ, List, leb}
-use Rattle.meaning.specs.Judged.{Judged, good, bad, ◌>>=◌, need}
+use Rattle.meaning.specs.Judged.{Judged, good, ◌>>=◌, need}
 use Rattle.meaning.specs.Sheet.{Query}
 use Rattle.meaning.specs.Call.{needed}
-use Rattle.sheet.specs.declared.Verdict.{Verdict}
-use Rattle.sheet.specs.declared.Verdict.TheVariants.{Refused, Accepted}
-
--- what each case of a verdict says
-abbrev pub verdict : Verdict → Judged ℕ
-verdict (Refused number place) = bad number place
-verdict (Accepted count) = good count
 
 -- the numbers that the answers of a sheet's queries fill, where the sheet has no fault
 unfoldable pub needed_of : Judged (List Query) → Judged ℕ

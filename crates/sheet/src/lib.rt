@@ -2,204 +2,147 @@
 // (document 01, "The sheet and the answer row").
 #![tactic(auto)]
 
-ghost use Rattle.std.specs.Prelude.{◌≡◌, ◌+◌, ◌*◌, ◌≤◌, length};
-ghost use Rattle.meaning.specs.Sheet.{within, mode_of, pairs_at, query_at, queries_at, sheet_of};
-ghost use Rattle.sheet.specs.Verdict.{verdict, needed_of, roomed};
-ghost use Rattle.sheet.specs.Extent.{asked, four_at, fairly, extent_of};
+ghost use Rattle.std.specs.Prelude.{◌≡◌, ℕ, ◌+◌, ◌*◌, ◌/◌, ◌≤◌, length, take, drop, IfOk, slice_index};
+ghost use Rattle.meaning.specs.Sheet.{query_at, queries_at, sheet_of};
+ghost use Rattle.meaning.specs.Refusals.{told, told_at};
+ghost use Rattle.sheet.specs.Verdict.{needed_of, roomed};
+ghost use Rattle.sheet.specs.Numbers.{asked_at, four_at, fair, HasPairs};
 ghost use Rattle.sheet.specs.Record.{Readable, IsRecord};
 
-use meaning::Mode;
+use meaning::{Fault, Mode, Refusal};
 
-// What judging says of a sheet: the number and place of its first fault, or how many numbers its answers fill.
+// A query's record: the mode as one of three named kinds, and its pairs, a term and a weight each.
 #[derive(Clone, Copy)]
-pub enum Verdict {
-    Refused(u32, usize),
-    Accepted(usize),
-}
-
-// A query's record: the mode as one of three named kinds, and where its q pairs stand.
-#[derive(Clone, Copy)]
-pub struct Record {
+pub struct Record<'a> {
     pub mode: Mode,
     pub k: usize,
     pub budget: u32,
-    pub q: usize,
-    pub pairs: usize,
+    pub pairs: &'a [u32],
 }
 
-// What judging keeps of a query: the rows that it asks for, and how many pairs it has.
-#[derive(Clone, Copy)]
-struct Extent {
-    pub k: usize,
-    pub q: usize,
+impl Record<'_> {
+    // How many terms q it has.
+    pub fn terms(self) -> usize
+        ensures { result ≡ length self.entry.pairs.now / 2 }
+    {
+        self.pairs.len() / 2
+    }
 }
 
-// What judging says of a query: the number and place of its first fault, or its extent.
-#[derive(Clone, Copy)]
-enum Asked {
-    Refused(u32, usize),
-    Fine(Extent),
-}
-
-fn wide(x: u32) -> usize
-    ensures { result ≡ x }
+// The record of the query that begins these numbers: "9 if any is missing", 10, 11, 12, and 9 where its pairs are not all there.
+#[tactic(auto, unfolding(crate::specs::Numbers::four_at))]
+fn four(numbers: &[u32]) -> Result<Record<'_>, Fault>
+    ensures says { (i : ℕ) → asked_at i result ≡ four_at numbers.now i }
+    ensures pairs { HasPairs numbers.now result }
+    ensures small { IfOk result (λ r. (r.k ≤ 64) × (4 + length r.pairs.now ≤ length numbers.now)) }
 {
-    x as usize
-}
-
-fn is_within(low: u32, high: u32, n: u32) -> bool
-    ensures { result ≡ within low high n }
-{
-    if n < low {
-        return false;
+    let [mode, k, budget, q, rest @ ..] = numbers else {
+        return Err(Fault::Numbers);
+    };
+    let Ok(mode) = Mode::try_from(*mode) else {
+        return Err(Fault::Mode);
+    };
+    if !(1..=64).contains(k) {
+        return Err(Fault::Rows);
     }
-    n <= high
-}
-
-// The four numbers of query i from number `at` on: "9 if any is missing", 10, 11, 12, and 9 where its pairs are not all there.
-fn four(sheet: &[u32], i: usize, at: usize) -> Asked
-    requires { at ≤ length sheet.now }
-    ensures { asked result ≡ four_at sheet.now i at }
-{
-    let left = sheet.len() - at;
-    if left < 4 {
-        return Asked::Refused(9, i);
+    if !(1..=16).contains(q) {
+        return Err(Fault::Mentions);
     }
-    if 2 < sheet[at] {
-        return Asked::Refused(10, i);
-    }
-    let k = sheet[at + 1];
-    if !is_within(1, 64, k) {
-        return Asked::Refused(11, i);
-    }
-    let q = sheet[at + 3];
-    if !is_within(1, 16, q) {
-        return Asked::Refused(12, i);
-    }
-    if left - 4 < 2 * wide(q) {
-        return Asked::Refused(9, i);
-    }
-    Asked::Fine(Extent {
-        k: wide(k),
-        q: wide(q),
+    let Some(pairs) = rest.get(..2 * *q as usize) else {
+        return Err(Fault::Numbers);
+    };
+    Ok(Record {
+        mode,
+        k: *k as usize,
+        budget: *budget,
+        pairs,
     })
 }
 
-// The pairs of query i from number `start` on: "pair by pair 13 before 14".
-fn pairs(sheet: &[u32], terms: usize, i: usize, start: usize, e: Extent) -> Asked
-    requires { start + 2 * e.q ≤ length sheet.now }
-    ensures { asked result ≡ fairly e (pairs_at sheet.now terms i start e.q) }
+// A query's pairs: "pair by pair 13 before 14".
+fn pairs(pairs: &[u32], terms: usize) -> Result<(), Fault>
+    ensures { (i : ℕ) → told_at i result ≡ fair pairs.now terms i }
 {
-    let mut at = start;
-    let mut left = e.q;
-    while 0 < left {
-        let term = wide(sheet[at]);
-        let fair = is_within(1, 255, sheet[at + 1]);
-        if terms <= term {
-            return Asked::Refused(13, i);
+    for [term, weight] in pairs.as_chunks::<2>().0 {
+        if terms <= *term as usize {
+            return Err(Fault::Term);
         }
-        if !fair {
-            return Asked::Refused(14, i);
+        if !(1..=255).contains(weight) {
+            return Err(Fault::Weight);
         }
-        at += 2;
-        left -= 1;
     }
-    Asked::Fine(e)
+    Ok(())
 }
 
-// Query i from number `at` on, whole.
-fn query(sheet: &[u32], terms: usize, i: usize, at: usize) -> Asked
-    requires { at ≤ length sheet.now }
-    ensures { asked result ≡ extent_of (query_at sheet.now terms i at) }
+// The query that begins these numbers, whole.
+#[tactic(auto, using(crate::proofs::Laws::four_off, crate::proofs::Laws::pairs_fine))]
+fn query(numbers: &[u32], terms: usize) -> Result<Record<'_>, Fault>
+    ensures says { (i : ℕ) → asked_at i result ≡ query_at numbers.now terms i 0 }
+    ensures pairs { HasPairs numbers.now result }
+    ensures small { IfOk result (λ r. (r.k ≤ 64) × (4 + length r.pairs.now ≤ length numbers.now)) }
 {
-    let found = four(sheet, i, at);
-    match found {
-        Asked::Refused(number, place) => Asked::Refused(number, place),
-        Asked::Fine(e) => pairs(sheet, terms, i, at + 4, e),
-    }
+    let record = four(numbers)?;
+    pairs(record.pairs, terms)?;
+    Ok(record)
 }
 
 // The n queries of a sheet; "numbers left over come after all queries".
-fn queries(sheet: &[u32], terms: usize, n: usize) -> Verdict
-    requires { (1 ≤ length sheet.now) × (n ≤ 64) }
-    ensures { verdict result ≡ needed_of (queries_at sheet.now terms 0 1 n) }
+#[tactic(auto, using(crate::proofs::Laws::needed_zero, crate::proofs::Laws::sheet_ends, crate::proofs::Laws::left_over))]
+fn queries(numbers: &[u32], terms: usize, n: usize) -> Result<usize, Refusal>
+    requires { n ≤ 64 }
+    ensures { told result ≡ needed_of (queries_at numbers.now terms 0 0 n) }
 {
-    let mut i = 0;
-    let mut at: usize = 1;
-    let mut needed: usize = 0;
-    while i < n {
-        let found = query(sheet, terms, i, at);
-        match found {
-            Asked::Refused(number, place) => {
-                return Verdict::Refused(number, place);
-            }
-            Asked::Fine(e) => {
-                at += 4 + 2 * e.q;
-                needed += 3 + 2 * e.k;
-                i += 1;
-            }
-        }
+    let mut rest = numbers;
+    let mut needed = 0;
+    for i in 0..n {
+        let query = query(rest, terms).map_err(|fault| Refusal { fault, place: i })?;
+        rest = &rest[4 + query.pairs.len()..];
+        needed += 3 + 2 * query.k;
     }
-    if at == sheet.len() {
-        Verdict::Accepted(needed)
+    if rest.is_empty() {
+        Ok(needed)
     } else {
-        Verdict::Refused(9, n)
+        Err(Refusal {
+            fault: Fault::Numbers,
+            place: n,
+        })
     }
 }
 
 // A whole sheet for an image of `terms` terms: its first fault, or how many numbers its answers fill.
-pub fn judge(sheet: &[u32], terms: usize) -> Verdict
-    ensures { verdict result ≡ needed_of (sheet_of sheet.now terms) }
+#[tactic(auto, unfolding(crate::specs::Verdict::needed_of, meaning::specs::Sheet::sheet_of))]
+pub fn judge(sheet: &[u32], terms: usize) -> Result<usize, Refusal>
+    ensures { told result ≡ needed_of (sheet_of sheet.now terms) }
 {
-    if sheet.len() == 0 {
-        return Verdict::Refused(9, 0);
+    match sheet {
+        [n, rest @ ..] if (1..=64).contains(n) => queries(rest, terms, *n as usize),
+        _ => Err(Refusal {
+            fault: Fault::Numbers,
+            place: 0,
+        }),
     }
-    let n = sheet[0];
-    if !is_within(1, 64, n) {
-        return Verdict::Refused(9, 0);
-    }
-    queries(sheet, terms, wide(n))
 }
 
 // Refusal 15, the last of all: the count where the answer row has room for it.
-pub fn room(v: Verdict, row_len: usize) -> Verdict
-    ensures { verdict result ≡ roomed (verdict v) row_len }
+#[tactic(auto, unfolding(crate::specs::Verdict::roomed))]
+pub fn room(judged: Result<usize, Refusal>, row_len: usize) -> Result<usize, Refusal>
+    ensures { told result ≡ roomed (told judged) row_len }
 {
-    match v {
-        Verdict::Refused(number, place) => Verdict::Refused(number, place),
-        Verdict::Accepted(count) => {
-            if count <= row_len {
-                Verdict::Accepted(count)
-            } else {
-                Verdict::Refused(15, count)
-            }
-        }
+    let count = judged?;
+    if row_len < count {
+        return Err(Refusal {
+            fault: Fault::Room,
+            place: count,
+        });
     }
+    Ok(count)
 }
 
-#[tactic(auto, using(crate::proofs::Laws::mode_plain, crate::proofs::Laws::mode_pruned, crate::proofs::Laws::mode_all))]
-fn mode_of(number: u32) -> Mode
-    ensures { result ≡ mode_of number }
-{
-    if number == 0 {
-        return Mode::Plain;
-    }
-    if number == 1 {
-        return Mode::Pruned;
-    }
-    Mode::All
-}
-
-// The record of the query at number `at` of an accepted sheet. The next query stands at `pairs + 2 * q`.
-pub fn read(sheet: &[u32], at: usize) -> Record
+// The record of the query at number `at` of an accepted sheet. The next query stands after its four numbers and its pairs.
+#[tactic(auto, using(crate::proofs::Laws::readable_at))]
+pub fn read(sheet: &[u32], at: usize) -> Record<'_>
     requires { Readable sheet.now at }
     ensures { IsRecord sheet.now at result }
 {
-    Record {
-        mode: mode_of(sheet[at]),
-        k: wide(sheet[at + 1]),
-        budget: sheet[at + 2],
-        q: wide(sheet[at + 3]),
-        pairs: at + 4,
-    }
+    four(&sheet[at..]).unwrap()
 }

@@ -1,22 +1,23 @@
 -- Laws of the keys: what the lowest one tells, and what becomes of them when its mention goes on.
-use Rattle.std.specs.Prelude.{◌≡◌, refl, List, ℕ, zero, suc, ◌+◌, ◌*◌, ◌-◌, ◌/◌, ◌%◌, ◌≤◌, ◌<◌, length, get_or, set}
+use Rattle.std.specs.Prelude.{◌≡◌, List, ℕ, ◌+◌, ◌-◌, ◌/◌, ◌%◌, ◌≤◌, ◌<◌, length, get_or, set}
 use Rattle.std.proofs.Common.{sym, ap, ◌∙◌, arith, get_or-set_same, get_or-set_other}
 use Rattle.lists.specs.Places.{at_place}
 use Rattle.lists.specs.Tests.{by_order}
-use Rattle.contest.specs.Contest.{Pairs, Entered}
+use Rattle.contest.specs.declared.Contest.{Contest}
+use Rattle.contest.specs.Contest.{Entered}
 use Rattle.cursor.specs.declared.Cursor.{Cursor}
 use Rattle.mentions.specs.declared.Mention.{Mention}
 use Rattle.mentions.specs.Mentions.{none}
 use Rattle.visit.specs.Stand.{Next, SoundFrom}
 use Rattle.visit.specs.Key.{key_of, key_past, sound_most}
-use Rattle.sweep.specs.Keys.{blanks, Blank, KeyedTo, Keyed}
+use Rattle.sweep.specs.Keys.{KeyedTo, Keyed}
 
 -- the place of a key
 key_place : (c : Cursor) (p : ℕ) → p < 16 → key_of c p / 256 % 16 ≡ p
 key_place c p h = omega arith
 
 -- the lowest key is that of the next posting
-module _ {s : List ℕ} {ms : List Mention} {j q : ℕ} {a b c d : List ℕ} {top : ℕ} (k : Keyed ms j (q - j) a b c d top) (sound : SoundFrom s ms j (q - j)) (some : j < q) where
+module _ {s : List ℕ} {ms : List Mention} {j q : ℕ} {c : Contest} {top : ℕ} (k : Keyed ms j (q - j) c top) (sound : SoundFrom s ms j (q - j)) (some : j < q) where
   few : q - j ≤ 16
   few = k.kept.few
 
@@ -60,57 +61,26 @@ module _ {s : List ℕ} {ms : List Mention} {j q : ℕ} {a b c d : List ℕ} {to
         fits = omega (arith, top_key, sound_most (sound p top_place));
       }
 
--- rows with no key
-blank_at : (m x : ℕ) → x < m → get_or (blanks m) x 0 ≡ 18446744073709551615
-blank_at zero x h = absurd (omega arith)
-blank_at (suc m) zero h = refl
-blank_at (suc m) (suc x) h = blank_at m x (omega arith)
-
-blank_long : (m : ℕ) → length (blanks m) ≡ m
-blank_long zero = refl
-blank_long (suc m) = ap suc (blank_long m)
-
-blank_pairs : (m : ℕ) → Pairs (blanks (2 * m)) (blanks m)
-blank_pairs m x h =
-    let lt = rw (blank_long m) at h in
-    omega (arith, blank_at m x lt, blank_at (2 * m) (2 * x) (omega arith), blank_at (2 * m) (2 * x + 1) (omega arith))
-
-pub blank_rows : (n : ℕ) → n ≤ 16 → Blank n (blanks 16) (blanks 8) (blanks 4) (blanks 2)
-blank_rows n le =
-    record {
-      kept = record { few = le; long = (refl, refl, refl, refl); over_two = λ _. blank_pairs 8; over_four = λ _. blank_pairs 4; over_eight = λ _. blank_pairs 2 };
-      blank = blank_at 16;
-    }
-
 -- the keys are entered one by one
-pub blank_keyed : {ms : List Mention} {j n : ℕ} {a b c d : List ℕ} → Blank n a b c d → KeyedTo 0 ms j n a b c d 18446744073709551615
-blank_keyed bl =
-    record {
-      kept = bl.kept;
-      lowest = record { place = 0; within = omega (arith, bl.kept.long.0); is = bl.blank 0 (omega arith); low = λ x h. omega (arith, bl.blank x (omega (arith, bl.kept.few))) };
-      keys = λ x h. absurd (omega arith);
-      over = λ x g h. bl.blank x h;
-    }
-
-pub keyed_more : {ms : List Mention} {j n p : ℕ} {a b c d a' b' c' d' : List ℕ} {top top' : ℕ} (key : ℕ) → KeyedTo p ms j n a b c d top → p < n →
-    key ≡ key_of (get_or ms (j + p) none).cursor p → Entered n p key a a' b' c' d' top' → KeyedTo (p + 1) ms j n a' b' c' d' top'
-keyed_more {ms} {j} {n} {p} {a} key k lt is e =
-    let in_a : p < length a = omega (arith, k.kept.few, k.kept.long.0) in
+pub keyed_more : {ms : List Mention} {j n p : ℕ} {c c' : Contest} {top top' : ℕ} (key : ℕ) → KeyedTo p ms j n c top → p < n →
+    key ≡ key_of (get_or ms (j + p) none).cursor p → Entered n p key c c' top' → KeyedTo (p + 1) ms j n c' top'
+keyed_more {ms} {j} {n} {p} {c} key k lt is e =
+    let in_keys : p < length c.keys = omega (arith, k.kept.few, k.kept.long.0) in
     record {
       kept = e.kept;
       lowest = e.lowest;
       keys = λ x h. rw e.stored
-          (at_place (λ (y : ℕ). y ≡ key_of (get_or ms (j + x) none).cursor x) a p key 0 x in_a (λ at. rw at is) (λ ne. k.keys x (omega arith)));
-      over = λ x g h. rw e.stored (at_place (λ (y : ℕ). y ≡ 18446744073709551615) a p key 0 x in_a (λ at. absurd (omega arith)) (λ ne. k.over x (omega arith) h));
+          (at_place (λ (y : ℕ). y ≡ key_of (get_or ms (j + x) none).cursor x) c.keys p key 0 x in_keys (λ at. rw at is) (λ ne. k.keys x (omega arith)));
+      over = λ x g h. rw e.stored (at_place (λ (y : ℕ). y ≡ 18446744073709551615) c.keys p key 0 x in_keys (λ at. absurd (omega arith)) (λ ne. k.over x (omega arith) h));
     }
 
 -- the mention at place p has gone on to r
-module _ {ms : List Mention} {j n p : ℕ} {a b c d a' b' c' d' : List ℕ} {top top' : ℕ} (key : ℕ)
-    (k : Keyed ms j n a b c d top) (lt : p < n) (entered : Entered n p key a a' b' c' d' top') where
-  in_row : p < length a
+module _ {ms : List Mention} {j n p : ℕ} {c c' : Contest} {top top' : ℕ} (key : ℕ)
+    (k : Keyed ms j n c top) (lt : p < n) (entered : Entered n p key c c' top') where
+  in_row : p < length c.keys
   in_row = omega (arith, k.kept.few, k.kept.long.0)
 
-  pub keyed_on : (r : Mention) → j + p < length ms → key ≡ key_of r.cursor p → Keyed (set ms (j + p) r) j n a' b' c' d' top'
+  pub keyed_on : (r : Mention) → j + p < length ms → key ≡ key_of r.cursor p → Keyed (set ms (j + p) r) j n c' top'
   keyed_on r in_ms is =
       let here : get_or (set ms (j + p) r) (j + p) none ≡ r = get_or-set_same ms (j + p) r none in_ms in
       let other : (x : ℕ) → (x ≡ p → ⊥) → get_or (set ms (j + p) r) (j + x) none ≡ get_or ms (j + x) none = λ x ne. get_or-set_other ms (j + p) (j + x) r none (λ e. ne (omega arith)) in
@@ -118,27 +88,27 @@ module _ {ms : List Mention} {j n p : ℕ} {a b c d a' b' c' d' : List ℕ} {top
         kept = entered.kept;
         lowest = entered.lowest;
         keys = λ x h. rw entered.stored
-            (at_place (λ (y : ℕ). y ≡ key_of (get_or (set ms (j + p) r) (j + x) none).cursor x) a p key 0 x in_row
+            (at_place (λ (y : ℕ). y ≡ key_of (get_or (set ms (j + p) r) (j + x) none).cursor x) c.keys p key 0 x in_row
             (λ at. rw (at, here) is) (λ ne. rw (other x ne) (k.keys x h)));
-        over = λ x g h. rw entered.stored (at_place (λ (y : ℕ). y ≡ 18446744073709551615) a p key 0 x in_row (λ at. absurd (omega arith)) (λ ne. k.over x g h));
+        over = λ x g h. rw entered.stored (at_place (λ (y : ℕ). y ≡ 18446744073709551615) c.keys p key 0 x in_row (λ at. absurd (omega arith)) (λ ne. k.over x g h));
       }
 
   -- and the lowest key has risen
   pub top_rises : p ≡ top / 256 % 16 → top < key → top < 18446744073709551615 → top < top'
   top_rises at up most =
       let y = entered.lowest.place in
-      let in_a : y < 16 = omega (arith, entered.lowest.within, entered.kept.long.0) in
+      let in_keys : y < 16 = omega (arith, entered.lowest.within, entered.kept.long.0) in
       rw (← entered.lowest.is, entered.stored)
-      (at_place (λ (v : ℕ). top < v) a p key 0 y in_row (λ e. up) (λ ne.
+      (at_place (λ (v : ℕ). top < v) c.keys p key 0 y in_row (λ e. up) (λ ne.
       by_order y n
       (λ l.
       let is = k.keys y l in
-      omega (arith, k.lowest.low y l, key_place (get_or ms (j + y) none).cursor y in_a))
-      (λ g. omega (arith, k.over y g in_a))))
+      omega (arith, k.lowest.low y l, key_place (get_or ms (j + y) none).cursor y in_keys))
+      (λ g. omega (arith, k.over y g in_keys))))
 
 -- those set aside have no keys
-pub keyed_aside : {ms ns : List Mention} {j n : ℕ} {a b c d : List ℕ} {top : ℕ} → Keyed ms j n a b c d top →
-    ((x : ℕ) → j ≤ x → get_or ns x none ≡ get_or ms x none) → Keyed ns j n a b c d top
+pub keyed_aside : {ms ns : List Mention} {j n : ℕ} {c : Contest} {top : ℕ} → Keyed ms j n c top →
+    ((x : ℕ) → j ≤ x → get_or ns x none ≡ get_or ms x none) → Keyed ns j n c top
 keyed_aside {j = j} k same =
     record {
       kept = k.kept;

@@ -1,69 +1,60 @@
--- The mentions above rank j with their keys read ahead: the array has each where its part of the room starts, rows tell how far on it is, and there is an
+-- The mentions above rank j with their keys read ahead: the array has each where its part of the room starts, spots tell how far on it is, and there is an
 -- array of the mentions where they are. They serve "A document is visited if a mention above rank j holds it. All such postings are scored."
 use Rattle.std.specs.Prelude.{ℕ, ◌+◌, ◌*◌, ◌-◌, ◌≤◌, ◌<◌, ◌≡◌, ◌⊎◌, List, length, get_or}
 use Rattle.mentions.specs.declared.Mention.{Mention}
 use Rattle.mentions.specs.declared.Tally.{Tally}
 use Rattle.mentions.specs.Mentions.{none}
+use Rattle.visit.specs.declared.Bounds.{Bounds}
 use Rattle.visit.specs.Postings.{Midway}
 use Rattle.ahead.specs.declared.Spot.{Spot}
 use Rattle.ahead.specs.Side.{seated, Side}
 use Rattle.pair.specs.Alone.{Frame}
 use Rattle.pair.specs.Pair.{with_ms}
+use Rattle.sweep.specs.declared.Spots.{Spots}
+use Rattle.sweep.specs.declared.Run.{Run}
 use Rattle.sweep.specs.Keys.{KeyedTo}
 
--- the rows beside the keys: of each mention the key after its own, the place of that in the room, and its weight; and the room
-pub record Rows (next places weights room : List ℕ) : Type 0 where
-  pub next_long : length next ≡ 16
-  pub places_long : length places ≡ 16
-  pub weights_long : length weights ≡ 16
-  pub room_long : length room ≡ 1056
+-- the rows beside the keys: of each mention the key after its own, the place of that in the room, and its weight
+pub record Rows (z : Spots) : Type 0 where
+  pub next_long : length z.next ≡ 16
+  pub places_long : length z.places ≡ 16
+  pub weights_long : length z.weights ≡ 16
 
 -- where mention x is in its part of the room
-abbrev pub spot_of : List ℕ → List ℕ → List ℕ → ℕ → Spot
-spot_of a next places x = record { place = get_or places x 0; key = get_or a x 0; next = get_or next x 0 }
+abbrev pub spot_of : Spots → ℕ → Spot
+spot_of z x = record { place = get_or z.places x 0; key = get_or z.contest.keys x 0; next = get_or z.next x 0 }
 
 -- of the n mentions from rank j on the first m are in their parts of the room: ms has them where the parts start, ns where they are
-pub record PartsTo (m : ℕ) (s : List ℕ) (ms ns : List Mention) (j n : ℕ) (a b c d next places weights room : List ℕ) (top : ℕ) : Type 0 where
-  pub keyed : KeyedTo m ns j n a b c d top
-  pub rows : Rows next places weights room
-  pub weighs : (x : ℕ) → x < m → get_or weights x 0 ≡ (get_or ms (j + x) none).weight
-  pub sides : (x : ℕ) → x < m → Side s (get_or ms (j + x) none).cursor x (x * 66) room (spot_of a next places x)
-  pub seats : (x : ℕ) → x < m → get_or ns (j + x) none ≡ seated s (get_or ms (j + x) none) (get_or places x 0 - (x * 66 + 1))
+pub record PartsTo (m : ℕ) (s : List ℕ) (ms ns : List Mention) (j n : ℕ) (z : Spots) (room : List ℕ) (top : ℕ) : Type 0 where
+  pub keyed : KeyedTo m ns j n z.contest top
+  pub rows : Rows z
+  pub weighs : (x : ℕ) → x < m → get_or z.weights x 0 ≡ (get_or ms (j + x) none).weight
+  pub sides : (x : ℕ) → x < m → Side s (get_or ms (j + x) none).cursor x (x * 66) room (spot_of z x)
+  pub seats : (x : ℕ) → x < m → get_or ns (j + x) none ≡ seated s (get_or ms (j + x) none) (get_or z.places x 0 - (x * 66 + 1))
   pub others : (x : ℕ) → (x < j) ⊎ (j + n ≤ x) → get_or ns x none ≡ get_or ms x none
 
 -- all of them are
-abbrev pub Parts : List ℕ → List Mention → List Mention → ℕ → ℕ → List ℕ → List ℕ → List ℕ → List ℕ → List ℕ → List ℕ → List ℕ → List ℕ → ℕ → Type 0
-Parts s ms ns j n a b c d next places weights room top = PartsTo n s ms ns j n a b c d next places weights room top
+abbrev pub Parts : List ℕ → List Mention → List Mention → ℕ → ℕ → Spots → List ℕ → ℕ → Type 0
+Parts s ms ns j n z room top = PartsTo n s ms ns j n z room top
 
 -- the n mentions of a walk, in their parts: the frame has them where they are
-pub record PartsAt (s : List ℕ) (f : Frame) (ms : List Mention) (n : ℕ) (a b c d next places weights room : List ℕ) (top slack limit past : ℕ) (t : Tally) : Type 0 where
+pub record PartsAt (s : List ℕ) (f : Frame) (ms : List Mention) (n : ℕ) (z : Spots) (room : List ℕ) (top slack limit past : ℕ) (t : Tally) : Type 0 where
   pub size : f.q ≡ f.j + n
   pub spare : f.budget ≡ limit + f.q
   pub low : f.bar ≡ slack + get_or f.pre f.j 0
-  pub parts : Parts s ms f.ms f.j n a b c d next places weights room top
+  pub parts : Parts s ms f.ms f.j n z room top
   pub midway : Midway s f.os f.pre f.bar f.j f.q f.budget f.run f.from f.ms past t
 
 -- the same later on, with the mentions at ns: no key is lower
-pub record Later (s : List ℕ) (f : Frame) (ms : List Mention) (n : ℕ) (a b c d next places weights room : List ℕ) (top slack limit past : ℕ) (t : Tally) (old : ℕ) : Type 0 where
+pub record Later (s : List ℕ) (f : Frame) (ms : List Mention) (n : ℕ) (z : Spots) (room : List ℕ) (top slack limit past : ℕ) (t : Tally) (old : ℕ) : Type 0 where
   pub ns : List Mention
-  pub at : PartsAt s (with_ms f ns) ms n a b c d next places weights room top slack limit past t
+  pub at : PartsAt s (with_ms f ns) ms n z room top slack limit past t
   pub up : old ≤ top
 
 -- there is such a walk, and what is left of each
-abbrev pub SomeParts : ℕ → List ℕ → List ℕ → List ℕ → List ℕ → List ℕ → List ℕ → List ℕ → List ℕ → ℕ → ℕ → ℕ → ℕ → Tally → Type 0
-SomeParts n a b c d next places weights room top slack limit past t =
-    (s : List ℕ) × (f : Frame) × (ms : List Mention) × PartsAt s f ms n a b c d next places weights room top slack limit past t
+abbrev pub SomeParts : ℕ → Spots → List ℕ → Run → Bounds → Type 0
+SomeParts n z room r b = (s : List ℕ) × (f : Frame) × (ms : List Mention) × PartsAt s f ms n z room r.top b.slack b.limit r.past r.tally
 
-abbrev pub EachParts : ℕ → List ℕ → List ℕ → List ℕ → List ℕ → List ℕ → List ℕ → List ℕ → List ℕ → ℕ → ℕ → ℕ → ℕ → Tally → List ℕ → List ℕ → List ℕ → List ℕ → List ℕ → List ℕ → ℕ → ℕ → Tally → Type 0
-EachParts n a b c d next places weights room top slack limit past t a' b' c' d' next' places' top' past' t' =
-    (s : List ℕ) (f : Frame) (ms : List Mention) → PartsAt s f ms n a b c d next places weights room top slack limit past t →
-    Later s f ms n a' b' c' d' next' places' weights room top' slack limit past' t' top
-
--- the same of two mentions, whatever stands in the rows above their keys
-abbrev pub SomeTwo : List ℕ → List ℕ → List ℕ → List ℕ → List ℕ → ℕ → ℕ → ℕ → Tally → Type 0
-SomeTwo a next places weights room slack limit past t =
-    (b : List ℕ) × (c : List ℕ) × (d : List ℕ) × (top : ℕ) × SomeParts 2 a b c d next places weights room top slack limit past t
-
-abbrev pub EachTwo : List ℕ → List ℕ → List ℕ → List ℕ → List ℕ → ℕ → ℕ → ℕ → Tally → List ℕ → List ℕ → List ℕ → ℕ → ℕ → Tally → Type 0
-EachTwo a next places weights room slack limit past t a' next' places' top' past' t' =
-    (b c d : List ℕ) (top : ℕ) → EachParts 2 a b c d next places weights room top slack limit past t a' b c d next' places' top' past' t'
+abbrev pub EachParts : ℕ → Spots → List ℕ → Run → Bounds → Spots → Run → Type 0
+EachParts n z room r b z' r' =
+    (s : List ℕ) (f : Frame) (ms : List Mention) → PartsAt s f ms n z room r.top b.slack b.limit r.past r.tally → Later s f ms n z' room r'.top b.slack b.limit r'.past r'.tally r.top

@@ -11,6 +11,7 @@ use Rattle.ahead.specs.declared.Spot.{Spot}
 use Rattle.ahead.specs.Side.{seated, Side}
 use Rattle.pair.specs.Alone.{Frame}
 use Rattle.pair.specs.Pair.{PairAt, PairIn}
+use Rattle.sweep.specs.declared.Spots.{Spots}
 use Rattle.sweep.specs.Parts.{spot_of, Parts, PartsAt, Later}
 
 -- one of two
@@ -42,19 +43,18 @@ module _ (row : List ℕ) (u v : ℕ) where
         (λ l. record { place = 0; within = omega (arith, two_long); is = two_first ∙ omega arith; low = low })
         (λ g. record { place = 1; within = omega (arith, two_long); is = two_second ∙ omega arith; low = low })
 
-module _ {s : List ℕ} {f : Frame} {ms : List Mention} {a b c d next places weights room : List ℕ} {top slack limit past : ℕ} {t : Tally}
-    (k : PartsAt s f ms 2 a b c d next places weights room top slack limit past t) where
+module _ {s : List ℕ} {f : Frame} {ms : List Mention} {z : Spots} {room : List ℕ} {top slack limit past : ℕ} {t : Tally}
+    (k : PartsAt s f ms 2 z room top slack limit past t) where
   here : f.j + 0 ≡ f.j
   here = omega arith
 
   -- the two are a pair
-  pub two_pair : PairAt s f (get_or ms f.j none) (get_or ms (f.j + 1) none) (spot_of a next places 0) (spot_of a next places 1) room slack limit past t
+  pub two_pair : PairAt s f (get_or ms f.j none) (get_or ms (f.j + 1) none) (spot_of z 0) (spot_of z 1) room slack limit past t
   two_pair =
       record {
         two = k.size;
         spare = k.spare;
         low = k.low;
-        long = k.parts.rows.room_long;
         one = rw here at (k.parts.seats 0 (omega arith));
         other = k.parts.seats 1 (omega arith);
         here = rw here at (k.parts.sides 0 (omega arith));
@@ -62,37 +62,45 @@ module _ {s : List ℕ} {f : Frame} {ms : List Mention} {a b c d next places wei
         midway = k.midway;
       }
 
-  pub two_own : get_or weights 0 0 ≡ (get_or ms f.j none).weight
+  pub two_own : get_or z.weights 0 0 ≡ (get_or ms f.j none).weight
   two_own = rw here at (k.parts.weighs 0 (omega arith))
 
-  pub two_other : get_or weights 1 0 ≡ (get_or ms (f.j + 1) none).weight
+  pub two_other : get_or z.weights 1 0 ≡ (get_or ms (f.j + 1) none).weight
   two_other = k.parts.weighs 1 (omega arith)
 
   -- and the pair is put back, further on
   module _ {x y : Spot} {past' : ℕ} {u : Tally} (i : PairIn s f (get_or ms f.j none) (get_or ms (f.j + 1) none) x y room slack limit past' u) where
-    a_long : length a ≡ 16
-    a_long = k.parts.keyed.kept.long.0
+    keys_long : length z.contest.keys ≡ 16
+    keys_long = k.parts.keyed.kept.long.0
 
-    key_0 : get_or (set (set a 0 x.key) 1 y.key) 0 0 ≡ x.key
-    key_0 = two_first a x.key y.key a_long
+    -- the first two places of the rows
+    abbrev back : Spots
+    back =
+        record z {
+          contest = record z.contest { keys = set (set z.contest.keys 0 x.key) 1 y.key };
+          next = set (set z.next 0 x.next) 1 y.next;
+          places = set (set z.places 0 x.place) 1 y.place;
+        }
 
-    key_1 : get_or (set (set a 0 x.key) 1 y.key) 1 0 ≡ y.key
-    key_1 = two_second a x.key y.key a_long
+    key_0 : get_or back.contest.keys 0 0 ≡ x.key
+    key_0 = two_first z.contest.keys x.key y.key keys_long
 
-    next_0 : get_or (set (set next 0 x.next) 1 y.next) 0 0 ≡ x.next
-    next_0 = two_first next x.next y.next k.parts.rows.next_long
+    key_1 : get_or back.contest.keys 1 0 ≡ y.key
+    key_1 = two_second z.contest.keys x.key y.key keys_long
 
-    next_1 : get_or (set (set next 0 x.next) 1 y.next) 1 0 ≡ y.next
-    next_1 = two_second next x.next y.next k.parts.rows.next_long
+    next_0 : get_or back.next 0 0 ≡ x.next
+    next_0 = two_first z.next x.next y.next k.parts.rows.next_long
 
-    place_0 : get_or (set (set places 0 x.place) 1 y.place) 0 0 ≡ x.place
-    place_0 = two_first places x.place y.place k.parts.rows.places_long
+    next_1 : get_or back.next 1 0 ≡ y.next
+    next_1 = two_second z.next x.next y.next k.parts.rows.next_long
 
-    place_1 : get_or (set (set places 0 x.place) 1 y.place) 1 0 ≡ y.place
-    place_1 = two_second places x.place y.place k.parts.rows.places_long
+    place_0 : get_or back.places 0 0 ≡ x.place
+    place_0 = two_first z.places x.place y.place k.parts.rows.places_long
 
-    two_parts : Parts s ms i.ms f.j 2 (set (set a 0 x.key) 1 y.key) b c d (set (set next 0 x.next) 1 y.next) (set (set places 0 x.place) 1 y.place) weights room
-        (min x.key y.key)
+    place_1 : get_or back.places 1 0 ≡ y.place
+    place_1 = two_second z.places x.place y.place k.parts.rows.places_long
+
+    two_parts : Parts s ms i.ms f.j 2 back room (min x.key y.key)
     two_parts =
         let p = k.parts in
         let long = p.keyed.kept.long in
@@ -101,37 +109,34 @@ module _ {s : List ℕ} {f : Frame} {ms : List Mention} {a b c d next places wei
           keyed = record {
             kept = record {
               few = omega arith;
-              long = (two_long a x.key y.key ∙ a_long, long.1, long.2, long.3);
+              long = (two_long z.contest.keys x.key y.key ∙ keys_long, long.1, long.2, long.3);
               over_two = λ h. absurd (omega arith);
               over_four = λ h. absurd (omega arith);
               over_eight = λ h. absurd (omega arith);
             };
-            lowest = two_lowest a x.key y.key a_long;
-            keys = of_two (λ (z : ℕ). get_or (set (set a 0 x.key) 1 y.key) z 0 ≡ key_of (get_or i.ms (f.j + z) none).cursor z)
+            lowest = two_lowest z.contest.keys x.key y.key keys_long;
+            keys = of_two (λ (v : ℕ). get_or back.contest.keys v 0 ≡ key_of (get_or i.ms (f.j + v) none).cursor v)
                 (key_0 ∙ rw (here, i.at.one) i.at.here.key)
                 (key_1 ∙ rw i.at.other i.at.there.key);
-            over = λ z g h. two_over a x.key y.key z g ∙ p.keyed.over z g h;
+            over = λ v g h. two_over z.contest.keys x.key y.key v g ∙ p.keyed.over v g h;
           };
           rows = record {
-            next_long = two_long next x.next y.next ∙ rows.next_long;
-            places_long = two_long places x.place y.place ∙ rows.places_long;
+            next_long = two_long z.next x.next y.next ∙ rows.next_long;
+            places_long = two_long z.places x.place y.place ∙ rows.places_long;
             weights_long = rows.weights_long;
-            room_long = rows.room_long;
           };
           weighs = p.weighs;
-          sides = of_two (λ (z : ℕ). Side s (get_or ms (f.j + z) none).cursor z (z * 66) room
-              (spot_of (set (set a 0 x.key) 1 y.key) (set (set next 0 x.next) 1 y.next) (set (set places 0 x.place) 1 y.place) z))
+          sides = of_two (λ (v : ℕ). Side s (get_or ms (f.j + v) none).cursor v (v * 66) room (spot_of back v))
               (rw (here, key_0, next_0, place_0) i.at.here)
               (rw (key_1, next_1, place_1) i.at.there);
-          seats = of_two (λ (z : ℕ). get_or i.ms (f.j + z) none ≡ seated s (get_or ms (f.j + z) none) (get_or (set (set places 0 x.place) 1 y.place) z 0 - (z * 66 + 1)))
+          seats = of_two (λ (v : ℕ). get_or i.ms (f.j + v) none ≡ seated s (get_or ms (f.j + v) none) (get_or back.places v 0 - (v * 66 + 1)))
               (rw (here, place_0) i.at.one)
               (rw place_1 i.at.other);
-          others = λ z o.
-              i.others z (λ e. ⊎_elim (λ l. omega arith) (λ g. omega arith) o) (λ e. ⊎_elim (λ l. omega arith) (λ g. omega arith) o) ∙ p.others z o;
+          others = λ v o.
+              i.others v (λ e. ⊎_elim (λ l. omega arith) (λ g. omega arith) o) (λ e. ⊎_elim (λ l. omega arith) (λ g. omega arith) o) ∙ p.others v o;
         }
 
-    pub two_later : {r : ℕ} → min (get_or a 0 0) (get_or a 1 0) ≤ min x.key y.key → r ≡ min x.key y.key →
-        Later s f ms 2 (set (set a 0 x.key) 1 y.key) b c d (set (set next 0 x.next) 1 y.next) (set (set places 0 x.place) 1 y.place) weights room r slack limit past' u top
+    pub two_later : {r : ℕ} → min (get_or z.contest.keys 0 0) (get_or z.contest.keys 1 0) ≤ min x.key y.key → r ≡ min x.key y.key → Later s f ms 2 back room r slack limit past' u top
     two_later up is =
         let low = k.parts.keyed.lowest.low in
         rw is

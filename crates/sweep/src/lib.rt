@@ -1,22 +1,33 @@
-// The postings of two mentions or more above rank j, in order of document: each mention's keys are read ahead into its part of a room, and rows of
-// numbers tell how far on each is. "A document is visited if a mention above rank j holds it. All such postings are scored."
+// The postings of two mentions or more above rank j, in order of document: each mention's keys are read ahead into its part of a room, and spots tell
+// how far on each is. "A document is visited if a mention above rank j holds it. All such postings are scored."
 #![tactic(auto)]
 
-ghost use Rattle.std.specs.Prelude.{◌+◌, ◌≤◌};
+ghost use Rattle.std.specs.Prelude.{ℕ, ◌≡◌, ◌+◌, ◌≤◌, ◌<◌};
 ghost use Rattle.visit.specs.Stand.{SoundFrom};
 ghost use Rattle.sweep.specs.Keys.{Blank};
-ghost use Rattle.sweep.specs.Parts.{Rows, Parts, SomeParts, EachParts, SomeTwo, EachTwo};
+ghost use Rattle.sweep.specs.Parts.{spot_of, Parts, SomeParts, EachParts};
 
-use ahead::{PART, Spot};
+use ahead::{PART, ROOM, Spot};
+use contest::Contest;
 use mentions::{Mention, Tally};
+use visit::Bounds;
 
 // No key.
-pub const NONE: u64 = 18446744073709551615;
+pub const NONE: u64 = u64::MAX;
 
 // How many keys of a mention are read ahead at first: a document that enters the table ends the walk.
 const FEW: usize = 8;
 
-// Where the postings were left: the lowest key, the last document plus one, and the tally there.
+// Where up to sixteen mentions are in their parts of the room: their own keys, those after them, the places of these, and the mentions' weights.
+#[derive(Clone, Copy)]
+pub struct Spots {
+    pub contest: Contest,
+    pub next: [u64; 16],
+    pub places: [usize; 16],
+    pub weights: [u32; 16],
+}
+
+// Where the postings are left: the lowest key, the last document plus one, and the tally there.
 #[derive(Clone, Copy)]
 pub struct Run {
     pub top: u64,
@@ -24,160 +35,128 @@ pub struct Run {
     pub tally: Tally,
 }
 
-// The n mentions above rank j, each with a few keys in its part of the room and its weight in a row: their own keys are entered one by one, those after
-// them and their places stand in rows too. The lowest of all.
-pub fn begin(
-    image: &[u8],
-    ms: [Mention; 16],
-    j: usize,
-    n: usize,
-    a: &mut [u64],
-    b: &mut [u64],
-    c: &mut [u64],
-    d: &mut [u64],
-    next: &mut [u64],
-    places: &mut [usize],
-    weights: &mut [u32],
-    room: &mut [u64],
-) -> u64
-    requires { Blank n a.old b.old c.old d.old
-        × Rows next.old places.old weights.old room.old
-        × (j + n ≤ 16)
-        × SoundFrom image.now ms j n }
-    ensures { Parts image.now ms ms j n a.new b.new c.new d.new next.new places.new weights.new room.new result }
-{
-    let mut top = NONE;
-    let mut p: usize = 0;
-    while p < n {
-        let m = ms[j + p];
-        let base = p * PART;
-        ahead::unpack(image, m.cursor, p, base, FEW, room);
-        weights[p] = m.weight;
-        places[p] = base + 1;
-        next[p] = room[base + 1];
-        top = contest::enter(a, b, c, d, n, p, room[base]);
-        p += 1;
+impl Spots {
+    // No mention's: no key in them.
+    pub fn blank() -> Spots
+        ensures { (n : ℕ) → n ≤ 16 → Blank n result.contest }
+    {
+        Spots {
+            contest: Contest::filled(NONE),
+            next: [0; 16],
+            places: [0; 16],
+            weights: [0; 16],
+        }
     }
-    top
-}
 
-// Two mentions, as `many`.
-fn two(
-    a: &mut [u64],
-    next: &mut [u64],
-    places: &mut [usize],
-    weights: &[u32],
-    room: &[u64],
-    slack: u32,
-    limit: u32,
-    past: u32,
-    tally: Tally,
-) -> Run
-    requires { SomeTwo a.old next.old places.old weights.now room.now slack limit past tally }
-    ensures { EachTwo a.old next.old places.old weights.now room.now slack limit past tally
-        a.new next.new places.new result.top result.past result.tally }
-{
-    let x = Spot {
-        place: places[0],
-        key: a[0],
-        next: next[0],
-    };
-    let y = Spot {
-        place: places[1],
-        key: a[1],
-        next: next[1],
-    };
-    let r = pair::both(
-        room, x, y, weights[0], weights[1], slack, limit, past, tally,
-    );
-    a[0] = r.x.key;
-    a[1] = r.y.key;
-    next[0] = r.x.next;
-    next[1] = r.y.next;
-    places[0] = r.x.place;
-    places[1] = r.y.place;
-    let t = r.tally;
-    Run {
-        top: contest::lower(r.x.key, r.y.key),
-        past: r.past,
-        tally: t,
+    // The n mentions above rank j, each with a few keys in its part of the room: their own keys are entered one by one. The lowest of all.
+    pub fn begin(
+        &mut self,
+        image: &[u8],
+        ms: [Mention; 16],
+        j: usize,
+        n: usize,
+        room: &mut [u64; ROOM],
+    ) -> u64
+        requires { Blank n self.old.contest × (j + n ≤ 16) × SoundFrom image.now ms j n }
+        ensures { Parts image.now ms ms j n self.new room.new result }
+    {
+        let mut top = NONE;
+        for p in 0..n {
+            let m = ms[j + p];
+            let base = p * PART;
+            ahead::unpack(image, m.cursor, p, base, FEW, room);
+            self.weights[p] = m.weight;
+            self.places[p] = base + 1;
+            self.next[p] = room[base + 1];
+            top = self.contest.enter(n, p, room[base]);
+        }
+        top
     }
-}
 
-// The postings of n mentions from the lowest key on: until a document's sum passes the bar less P(j), the stop, the end, or the last key of a part,
-// which is left.
-fn many(
-    a: &mut [u64],
-    b: &mut [u64],
-    c: &mut [u64],
-    d: &mut [u64],
-    next: &mut [u64],
-    places: &mut [usize],
-    weights: &[u32],
-    room: &[u64],
-    n: usize,
-    top: u64,
-    slack: u32,
-    limit: u32,
-    past: u32,
-    tally: Tally,
-) -> Run
-    requires { SomeParts n a.old b.old c.old d.old next.old places.old weights.now room.now top slack limit past tally }
-    ensures { EachParts n a.old b.old c.old d.old next.old places.old weights.now room.now top slack limit past tally
-        a.new b.new c.new d.new next.new places.new result.top result.past result.tally }
-{
-    let mut top = top;
-    let mut past = past;
-    let mut t = tally;
-    let mut p = (top / 256 % 16) as usize;
-    let mut key = next[p];
-    while 0 < key && visit::goes_on(t, slack, limit, (top / 4096) as u32, past) {
-        let here = (top / 4096) as u32;
-        t = mentions::scored(
-            visit::carried(t, past, here),
-            weights[p],
-            (top % 256) as u32,
+    // Where mention p is.
+    fn spot(&self, p: usize) -> Spot
+        requires { p < 16 }
+        ensures { result ≡ spot_of self.now p }
+    {
+        Spot {
+            place: self.places[p],
+            key: self.contest.keys[p],
+            next: self.next[p],
+        }
+    }
+
+    // Two mentions, as `many`.
+    fn two(&mut self, room: &[u64; ROOM], run: Run, bounds: Bounds) -> Run
+        requires { SomeParts 2 self.old room.now run bounds }
+        ensures parts { EachParts 2 self.old room.now run bounds self.new result }
+        ensures weights { self.new.weights ≡ self.old.weights }
+    {
+        let r = pair::both(
+            room,
+            self.spot(0),
+            self.spot(1),
+            self.weights[0],
+            self.weights[1],
+            bounds,
+            run.past,
+            run.tally,
         );
-        past = here;
-        let place = places[p] + 1;
-        places[p] = place;
-        next[p] = room[place];
-        top = contest::enter(a, b, c, d, n, p, key);
-        p = (top / 256 % 16) as usize;
-        key = next[p];
+        self.contest.keys[0] = r.x.key;
+        self.contest.keys[1] = r.y.key;
+        self.next[0] = r.x.next;
+        self.next[1] = r.y.next;
+        self.places[0] = r.x.place;
+        self.places[1] = r.y.place;
+        Run {
+            top: r.x.key.min(r.y.key),
+            past: r.past,
+            tally: r.tally,
+        }
     }
-    Run {
-        top: top,
-        past: past,
-        tally: t,
-    }
-}
 
-// The same of n mentions, two or more.
-pub fn swept(
-    a: &mut [u64],
-    b: &mut [u64],
-    c: &mut [u64],
-    d: &mut [u64],
-    next: &mut [u64],
-    places: &mut [usize],
-    weights: &[u32],
-    room: &[u64],
-    n: usize,
-    top: u64,
-    slack: u32,
-    limit: u32,
-    past: u32,
-    tally: Tally,
-) -> Run
-    requires { SomeParts n a.old b.old c.old d.old next.old places.old weights.now room.now top slack limit past tally }
-    ensures { EachParts n a.old b.old c.old d.old next.old places.old weights.now room.now top slack limit past tally
-        a.new b.new c.new d.new next.new places.new result.top result.past result.tally }
-{
-    if n == 2 {
-        return two(a, next, places, weights, room, slack, limit, past, tally);
+    // The postings of n mentions from the lowest key on: until a document's sum passes the bar less P(j), the stop, the end, or the last key of a
+    // part, which is left.
+    fn many(&mut self, room: &[u64; ROOM], n: usize, run: Run, bounds: Bounds) -> Run
+        requires { SomeParts n self.old room.now run bounds }
+        ensures parts { EachParts n self.old room.now run bounds self.new result }
+        ensures weights { self.new.weights ≡ self.old.weights }
+    {
+        let mut top = run.top;
+        let mut past = run.past;
+        let mut t = run.tally;
+        let mut p = (top / 256 % 16) as usize;
+        let mut key = self.next[p];
+        while 0 < key && visit::goes_on(t, bounds, (top / 4096) as u32, past) {
+            let here = (top / 4096) as u32;
+            t = mentions::scored(
+                visit::carried(t, past, here),
+                self.weights[p],
+                (top % 256) as u32,
+            );
+            past = here;
+            let place = self.places[p] + 1;
+            self.places[p] = place;
+            self.next[p] = room[place];
+            top = self.contest.enter(n, p, key);
+            p = (top / 256 % 16) as usize;
+            key = self.next[p];
+        }
+        Run {
+            top,
+            past,
+            tally: t,
+        }
     }
-    many(
-        a, b, c, d, next, places, weights, room, n, top, slack, limit, past, tally,
-    )
+
+    // The same of n mentions, two or more.
+    pub fn swept(&mut self, room: &[u64; ROOM], n: usize, run: Run, bounds: Bounds) -> Run
+        requires { SomeParts n self.old room.now run bounds }
+        ensures parts { EachParts n self.old room.now run bounds self.new result }
+        ensures weights { self.new.weights ≡ self.old.weights }
+    {
+        if n == 2 {
+            return self.two(room, run, bounds);
+        }
+        self.many(room, n, run, bounds)
+    }
 }

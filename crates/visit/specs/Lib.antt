@@ -1,5 +1,6 @@
 pub mod Stand
 pub mod Walk
+pub mod EndLaws
 pub mod NextLaws
 pub mod StandLaws
 pub mod PlacedLaws

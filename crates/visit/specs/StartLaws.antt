@@ -42,11 +42,11 @@ least_next {s} {d} q k ms le st =
     rw (get_or-drop k (take q ms) x none, get_or-take q ms (k + x) none lt) (st (k + x) (omega arith) lt)))
 
 -- the next document, where the mentions up to rank k are set aside
-module _ {s : List ℕ} {os : List sc.Mention} {j : ℕ} {r : Visit} (l : Leaves s os j r) {q : ℕ} (whole : length os ≡ q) (few : q ≤ 16) (k : ℕ) (up : j ≤ k) where
+module _ {s : List ℕ} {os : List sc.Mention} {j : ℕ} {r : Visit} {past next : ℕ} (l : Leaves s os j r past next) {q : ℕ} (whole : length os ≡ q) (few : q ≤ 16) (k : ℕ) (up : j ≤ k) where
   leaves_meant : meant_of s q r.ms ≡ os
   leaves_meant = placed_meant l.placed whole (omega (arith, l.long))
 
-  pub leaves_least : least_of (drop k (take q r.ms)) ≡ next_at (drop k os) r.past
+  pub leaves_least : least_of (drop k (take q r.ms)) ≡ next_at (drop k os) past
   leaves_least =
-      let there : suc (r.past - 1) ≡ r.past = omega (arith, l.some) in
+      let there : suc (past - 1) ≡ past = omega (arith, l.some) in
       rw (leaves_meant, there) at (least_next q k r.ms (omega (arith, l.long)) (λ x g h. l.placed.gone x (omega arith) (omega arith)))

@@ -8,35 +8,35 @@ ghost use Rattle.visit.specs.Stand.{Stands, Lags, Goes};
 
 use cursor::Cursor;
 use mentions::{Mention, Tally};
-use runs::Turn;
 
-// No document: it stands after every other.
+// No document: it stands after every other, so that the lowest of several is found with no test for an end.
 pub const DONE: u32 = 4294967295;
 
-// How a walk ended, with the mentions where it left them: the document plus one, its sum, the postings scored up to then, and the next
-// document plus one.
+// How a walk under one bar ends.
+#[derive(Clone, Copy, Debug, PartialEq, Eq)]
+pub enum End {
+    // no document is left
+    Finished,
+    // the stop rule stops before document past - 1
+    Stopped { past: u32 },
+    // document past - 1 enters with its sum, and the next document is next - 1
+    Entered { past: u32, sum: u32, next: u32 },
+}
+
+// What a walk leaves: the mentions, the postings scored up to its end, and that end.
 #[derive(Clone, Copy)]
 pub struct Visit {
     pub ms: [Mention; 16],
-    pub turn: Turn,
-    pub past: u32,
-    pub sum: u32,
     pub count: u32,
-    pub next: u32,
+    pub end: End,
 }
 
-// A walk that ends.
-pub fn ended(ms: [Mention; 16], turn: Turn, past: u32, sum: u32, count: u32, next: u32) -> Visit
-    ensures { result ≡ record { ms = ms; turn = turn; past = past; sum = sum; count = count; next = next } }
-{
-    Visit {
-        ms,
-        turn,
-        past,
-        sum,
-        count,
-        next,
-    }
+// What a tally keeps to where postings are taken on: a sum of at most the slack, the bar less P(j), and a count of at most the limit, the
+// budget less q.
+#[derive(Clone, Copy)]
+pub struct Bounds {
+    pub slack: u32,
+    pub limit: u32,
 }
 
 // A posting as one number, by which postings are ordered by document and then by mention: the document plus one, the mention's place above
@@ -45,7 +45,7 @@ pub fn key(c: Cursor, p: usize) -> u64
     requires { p < 16 }
     ensures { result ≡ key_of c p }
 {
-    (c.past as u64) * 4096 + (p as u64) * 256 + (c.impact as u64) % 256
+    u64::from(c.past) * 4096 + (p as u64) * 256 + u64::from(c.impact) % 256
 }
 
 // A mention that goes on in a block that has no other posting: it goes to the next block, or to the end of its list.
@@ -53,20 +53,26 @@ pub fn turned(image: &[u8], m: Mention) -> Mention
     requires { Stands image.now (m.cursor.past - 1) m × (m.cursor.past ≡ 4294967295 → ⊥) × (m.cursor.rest ≡ 0) }
     ensures { Goes image.now m.cursor.past m result }
 {
-    let c = cursor::turn_block(image, m.cursor);
-    Mention { cursor: c, ..m }
+    Mention {
+        cursor: cursor::turn_block(image, m.cursor),
+        ..m
+    }
 }
 
 // A mention that goes on past its document.
+#[tactic(auto, using(crate::specs::StandLaws::goes_taken))]
 pub fn went(image: &[u8], m: Mention) -> Mention
     requires { Stands image.now (m.cursor.past - 1) m × (m.cursor.past ≡ 4294967295 → ⊥) }
     ensures { Goes image.now m.cursor.past m result }
 {
     if m.cursor.rest == 0 {
-        return turned(image, m);
+        turned(image, m)
+    } else {
+        Mention {
+            cursor: cursor::take_next(image, m.cursor),
+            ..m
+        }
     }
-    let c = cursor::take_next(image, m.cursor);
-    Mention { cursor: c, ..m }
 }
 
 // A mention that was set aside, at its first posting from a document on.
@@ -74,24 +80,19 @@ pub fn sought(image: &[u8], m: Mention, past: u32) -> Mention
     requires { (0 < past) × (past ≤ 16777216) × Lags image.now (past - 1) m }
     ensures { Goes image.now (past - 1) m result }
 {
-    let c = cursor::seek(image, m.cursor, past);
-    Mention { cursor: c, ..m }
+    Mention {
+        cursor: cursor::seek(image, m.cursor, past),
+        ..m
+    }
 }
 
 // Whether postings are taken on: the one at hand is of the same document, or it is of a document that is visited after one that is dropped,
-// whose sum is at most the slack, the bar less P(j).
-pub fn goes_on(t: Tally, slack: u32, limit: u32, here: u32, past: u32) -> bool
-    ensures { (result ≡ true → (here ≡ past) ⊎ ((t.sum ≤ slack) × (t.count ≤ limit) × (here ≡ 4294967295 → ⊥)))
+// whose sum and count keep to the bounds.
+pub fn goes_on(t: Tally, bounds: Bounds, here: u32, past: u32) -> bool
+    ensures { (result ≡ true → (here ≡ past) ⊎ ((t.sum ≤ bounds.slack) × (t.count ≤ bounds.limit) × (here ≡ 4294967295 → ⊥)))
         × (result ≡ false → here ≡ past → ⊥) }
 {
-    if t.sum <= slack {
-        if t.count <= limit {
-            if here != DONE {
-                return true;
-            }
-        }
-    }
-    here == past
+    (t.sum <= bounds.slack && t.count <= bounds.limit && here != DONE) || here == past
 }
 
 // A tally at the next posting's document: as it is where that is the same, else with the sum of a new document.
@@ -99,10 +100,8 @@ pub fn carried(t: Tally, past: u32, here: u32) -> Tally
     ensures { (here ≡ past → result ≡ t) × ((here ≡ past → ⊥) → result ≡ record { sum = 0; count = t.count }) }
 {
     if here == past {
-        return t;
-    }
-    Tally {
-        sum: 0,
-        count: t.count,
+        t
+    } else {
+        Tally { sum: 0, ..t }
     }
 }

@@ -7,26 +7,24 @@ use Rattle.mentions.specs.declared.Mention.{Mention}
 use Rattle.mentions.specs.Mentions.{none}
 use Rattle.ahead.specs.Side.{seated, Stood}
 use Rattle.ahead.specs.SideLaws.{side_stood}
+use Rattle.sweep.specs.declared.Spots.{Spots}
 use Rattle.sweep.specs.Parts.{Parts}
 use Rattle.walk.specs.Standing.{Settled}
 
-pub settled_first : {j : ℕ} {ms₀ ns : List Mention} → Settled j 0 ms₀ ns ms₀
-settled_first = record { long = refl; done = λ x h. absurd (omega arith); rest = λ x o. refl }
-
-module _ {s : List ℕ} {ms₀ ns ms : List Mention} {j n p : ℕ} {a b c d next places weights room : List ℕ} {top : ℕ} (k : Parts s ms₀ ns j n a b c d next places weights room top) (x : Settled j p ms₀ ns ms) where
+module _ {s : List ℕ} {ms₀ ns ms : List Mention} {j n p : ℕ} {z : Spots} {room : List ℕ} {top : ℕ} (k : Parts s ms₀ ns j n z room top) (x : Settled j p ms₀ ns ms) where
   module _ (lt : p < n) where
     own : get_or ms (j + p) none ≡ get_or ms₀ (j + p) none
     own = x.rest (j + p) (inr (omega arith))
 
-    pub settle_low : p * 66 + 1 ≤ get_or places p 0
+    pub settle_low : p * 66 + 1 ≤ get_or z.places p 0
     settle_low = (k.sides p lt).low
 
-    pub settle_stood : Stood s (get_or ms (j + p) none) (get_or a p 0) (get_or places p 0 - (p * 66 + 1))
-    settle_stood = rw own (side_stood (k.sides p lt) (omega (arith, k.keyed.kept.few)) (get_or a p 0) _ refl refl)
+    pub settle_stood : Stood s (get_or ms (j + p) none) (get_or z.contest.keys p 0) (get_or z.places p 0 - (p * 66 + 1))
+    settle_stood = rw own (side_stood (k.sides p lt) (omega (arith, k.keyed.kept.few)) (get_or z.contest.keys p 0) _ refl refl)
 
-    pub settled_on : {m : Mention} → j + p < length ms → m ≡ seated s (get_or ms (j + p) none) (get_or places p 0 - (p * 66 + 1)) → Settled j (p + 1) ms₀ ns (set ms (j + p) m)
+    pub settled_on : {m : Mention} → j + p < length ms → m ≡ seated s (get_or ms (j + p) none) (get_or z.places p 0 - (p * 66 + 1)) → Settled j (p + 1) ms₀ ns (set ms (j + p) m)
     settled_on {m} within is =
-        let there : m ≡ get_or ns (j + p) none = is ∙ ap (λ (y : Mention). seated s y (get_or places p 0 - (p * 66 + 1))) own ∙ sym (k.seats p lt) in
+        let there : m ≡ get_or ns (j + p) none = is ∙ ap (λ (y : Mention). seated s y (get_or z.places p 0 - (p * 66 + 1))) own ∙ sym (k.seats p lt) in
         record {
           long = length-set ms (j + p) m ∙ x.long;
           done = λ y h.

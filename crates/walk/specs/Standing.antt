@@ -10,14 +10,14 @@ use Rattle.visit.specs.Stand.{Next}
 use Rattle.visit.specs.Walk.{meant_of, run_by}
 use Rattle.visit.specs.Postings.{Midway}
 use Rattle.pair.specs.Alone.{Frame}
+use Rattle.sweep.specs.declared.Spots.{Spots}
 use Rattle.sweep.specs.Parts.{Parts}
 
--- the array ms, and where its mentions are, with rows and a room for n of them from rank j on
-pub record Standing (s : List ℕ) (ms ns : List Mention) (j n : ℕ) (a b c d next places weights room : List ℕ) (top : ℕ) : Type 0 where
+-- the array ms, and where its mentions are, with spots and a room for n of them from rank j on
+pub record Standing (s : List ℕ) (ms ns : List Mention) (j n : ℕ) (z : Spots) (room : List ℕ) (top : ℕ) : Type 0 where
   pub long : length ms ≡ 16
-  pub wide : length room ≡ 1056
   pub same : n ≤ 1 → ns ≡ ms
-  pub parts : 1 < n → Parts s ms ns j n a b c d next places weights room top
+  pub parts : 1 < n → Parts s ms ns j n z room top
 
 -- the walk from document past - 1 on with `count` postings scored before it, of the mentions that ms means, which are at ns
 abbrev pub frame_of : List ℕ → List Mention → List ℕ → ℕ → ℕ → ℕ → ℕ → ℕ → ℕ → List Mention → Frame

@@ -16,18 +16,15 @@ use Rattle.visit.specs.Walking.{Walking}
 use Rattle.visit.specs.Postings.{some_mention}
 use Rattle.visit.proofs.Postings.{midway_first}
 use Rattle.pair.specs.Alone.{Frame, AloneAt, AloneTo, alone_next}
+use Rattle.sweep.specs.declared.Spots.{Spots}
 use Rattle.sweep.specs.KeyLaws.{keyed_aside}
 use Rattle.sweep.specs.Parts.{Parts, PartsAt}
 use Rattle.sweep.specs.PartLaws.{parts_next}
 use Rattle.walk.specs.Standing.{Standing, Come}
 
--- not one mention is two or more
-above : {j q n : ℕ} → j < q → q ≡ j + n → (n ≡ 1 → ⊥) → 1 < n
-above lt size ne = omega (arith, ne)
-
-module _ {s : List ℕ} {ms ns : List Mention} {j n : ℕ} {a b c d next places weights room : List ℕ} {top : ℕ} (k : Standing s ms ns j n a b c d next places weights room top) where
+module _ {s : List ℕ} {ms ns : List Mention} {j n : ℕ} {z : Spots} {room : List ℕ} {top : ℕ} (k : Standing s ms ns j n z room top) where
   -- one mention or none, or two or more
-  by_many : {C : Type 0} → (ns ≡ ms → C) → (Parts s ms ns j n a b c d next places weights room top → C) → C
+  by_many : {C : Type 0} → (ns ≡ ms → C) → (Parts s ms ns j n z room top → C) → C
   by_many g h = by_order 1 n (λ l. h (k.parts l)) (λ l. g (k.same l))
 
   -- those set aside are where the array has them
@@ -66,18 +63,21 @@ module _ {s : List ℕ} {ms ns : List Mention} {j n : ℕ} {a b c d next places 
     pub standing_asked : (C : List sc.Mention → Run → Type 0) → C (meant_of s q ms) (run_by s (meant_of s q ms) bar j q budget past count) → C os run
     standing_asked C x = subst (C os) w.same (subst (λ (l : List sc.Mention). C l (run_by s l bar j q budget past count)) own_meant x)
 
-    -- two mentions or more above rank j start at a document
-    pub parts_start : {slack limit : ℕ} → (n ≡ 1 → ⊥) → q ≡ j + n → bar ≡ slack + get_or pre j 0 → budget ≡ limit + q → (past ≡ 4294967295 → ⊥) → count + q ≤ budget →
-        PartsAt s (record { os = os; pre = pre; bar = bar; j = j; q = q; budget = budget; run = run; from = past; ms = ns }) ms n a b c d next places weights room top slack limit past (record { sum = 0; count = count })
-    parts_start more size low spare ne fits =
-        let m = midway_first {from = past} w ne fits (omega arith) in
-        record { size = size; spare = spare; low = low; parts = k.parts (above (some_mention m) size more); midway = m }
+    -- a document that is visited is of a mention above rank j
+    pub some_above : (past ≡ 4294967295 → ⊥) → count + q ≤ budget → j < q
+    some_above ne fits = some_mention (midway_first {from = past} w ne fits (omega arith))
+
+    -- two mentions or more above rank j start at it
+    pub parts_start : {slack limit : ℕ} → 1 < n → q ≡ j + n → bar ≡ slack + get_or pre j 0 → budget ≡ limit + q → (past ≡ 4294967295 → ⊥) → count + q ≤ budget →
+        PartsAt s (record { os = os; pre = pre; bar = bar; j = j; q = q; budget = budget; run = run; from = past; ms = ns }) ms n z room top slack limit past (record { sum = 0; count = count })
+    parts_start many size low spare ne fits =
+        record { size = size; spare = spare; low = low; parts = k.parts many; midway = midway_first {from = past} w ne fits (omega arith) }
 
     -- and one
-    pub alone_start : {slack limit : ℕ} → n ≡ 1 → q ≡ j + n → bar ≡ slack + get_or pre j 0 → budget ≡ limit + q → (past ≡ 4294967295 → ⊥) → count + q ≤ budget →
+    pub alone_start : {slack limit : ℕ} → n ≤ 1 → q ≡ j + n → bar ≡ slack + get_or pre j 0 → budget ≡ limit + q → (past ≡ 4294967295 → ⊥) → count + q ≤ budget →
         AloneAt s (record { os = os; pre = pre; bar = bar; j = j; q = q; budget = budget; run = run; from = past; ms = ms }) (get_or ms j none) slack limit past (record { sum = 0; count = count })
-    alone_start one size low spare ne fits =
-        record { one = omega arith; spare = spare; own = refl; low = low; midway = rw (k.same (omega arith)) at (midway_first {from = past} w ne fits (omega arith)) }
+    alone_start few size low spare ne fits =
+        record { one = omega (arith, some_above ne fits); spare = spare; own = refl; low = low; midway = rw (k.same few) at (midway_first {from = past} w ne fits (omega arith)) }
 
   -- a mention set aside is looked up
   module _ (i : ℕ) (m : Mention) (lt : i < j) (within : i < 16) (ns_long : length ns ≡ 16) where
@@ -93,7 +93,7 @@ module _ {s : List ℕ} {ms ns : List Mention} {j n : ℕ} {a b c d next places 
         (λ at. rw at (sym (get_or-set_same ms i m none (omega (arith, k.long)))))
         (λ ne. e ∙ sym (get_or-set_other ms i x m none ne))
 
-    looked_parts : Parts s ms ns j n a b c d next places weights room top → Parts s (set ms i m) (set ns i m) j n a b c d next places weights room top
+    looked_parts : Parts s ms ns j n z room top → Parts s (set ms i m) (set ns i m) j n z room top
     looked_parts p =
         record {
           keyed = keyed_aside p.keyed up_ns;
@@ -104,8 +104,8 @@ module _ {s : List ℕ} {ms ns : List Mention} {j n : ℕ} {a b c d next places 
           others = λ x o. at_same x (p.others x o);
         }
 
-    pub standing_looked : Standing s (set ms i m) (set ns i m) j n a b c d next places weights room top
-    standing_looked = record { long = length-set ms i m ∙ k.long; wide = k.wide; same = λ l. rw (k.same l) refl; parts = λ l. looked_parts (k.parts l) }
+    pub standing_looked : Standing s (set ms i m) (set ns i m) j n z room top
+    standing_looked = record { long = length-set ms i m ∙ k.long; same = λ l. rw (k.same l) refl; parts = λ l. looked_parts (k.parts l) }
 
 -- the one mention has gone on alone
 pub come_alone : {s : List ℕ} {f : Frame} {slack limit : ℕ} {m : Mention} {past : ℕ} {t : Tally} {top : ℕ} → AloneTo s f slack limit m past t → top ≡ key_of m.cursor 0 →
@@ -115,14 +115,12 @@ come_alone {f = f} {m = m} x e =
     rw e (record { midway = x.at.midway; i = f.j; next = rw past_is (alone_next x.at); later = rw past_is x.later })
 
 -- two or more have gone on
-pub come_parts : {s : List ℕ} {f : Frame} {ms : List Mention} {n : ℕ} {a b c d next places weights room : List ℕ} {top slack limit past : ℕ} {t : Tally} →
-    PartsAt s f ms n a b c d next places weights room top slack limit past t → (top / 4096 ≡ past → ⊥) →
+pub come_parts : {s : List ℕ} {f : Frame} {ms : List Mention} {n : ℕ} {z : Spots} {room : List ℕ} {top slack limit past : ℕ} {t : Tally} →
+    PartsAt s f ms n z room top slack limit past t → (top / 4096 ≡ past → ⊥) →
     Come s f.os f.pre f.bar f.j f.q f.budget f.run f.from f.ms past t top
 come_parts {f = f} {top = top} k later = record { midway = k.midway; i = f.j + top / 256 % 16; next = parts_next k; later = later }
 
 -- and stand there
-pub standing_parts : {s : List ℕ} {f : Frame} {ms : List Mention} {n : ℕ} {a b c d next places weights room : List ℕ} {top slack limit past : ℕ} {t : Tally} →
-    PartsAt s f ms n a b c d next places weights room top slack limit past t → (n ≡ 1 → ⊥) → length ms ≡ 16 → Standing s ms f.ms f.j n a b c d next places weights room top
-standing_parts k more long =
-    let many = above (some_mention k.midway) k.size more in
-    record { long = long; wide = k.parts.rows.room_long; same = λ l. absurd (omega arith); parts = λ l. k.parts }
+pub standing_parts : {s : List ℕ} {f : Frame} {ms : List Mention} {n : ℕ} {z : Spots} {room : List ℕ} {top slack limit past : ℕ} {t : Tally} →
+    PartsAt s f ms n z room top slack limit past t → 1 < n → length ms ≡ 16 → Standing s ms f.ms f.j n z room top
+standing_parts k many long = record { long = long; same = λ l. absurd (omega arith); parts = λ l. k.parts }

@@ -2,136 +2,107 @@
 // such postings are scored. Then, from rank j down to 1 .." The array of mentions goes in by value and comes back with the visit.
 #![tactic(auto)]
 
-ghost use Rattle.std.specs.Prelude.{◌≡◌, ◌+◌, ◌≤◌, ◌<◌, length, get_or};
-ghost use Rattle.runs.specs.declared.Turn.TheVariants.{Entered};
+ghost use Rattle.std.specs.Prelude.{◌≡◌, ◌≤◌, get_or};
 ghost use Rattle.meaning.specs.Image.{index_of};
-ghost use Rattle.visit.specs.Walk.{meant_of, Starts, run_of, run_by, Leaves};
+ghost use Rattle.visit.specs.Walk.{meant_of, Starts, run_of, run_by, Told, IfEntered, Leaves};
 
-use ahead::PART;
+use ahead::{PART, ROOM};
 use mentions::{Mention, Tally};
-use runs::Turn;
-use sweep::NONE;
-use visit::{DONE, Visit};
+use sweep::{NONE, Run, Spots};
+use visit::{Bounds, DONE, End, Visit};
 
 // The documents from past - 1 on that a mention above rank j holds, under one bar, with `count` postings scored before them: up to the
 // first that enters the table, the one before which the query stops, or the end. The stop rule is asked before anything of a document
 // is scored. "All such postings are scored", and those mentions go on; then the mentions below are looked up until the sum so far plus
 // P(i) is at most the bar. A dropped document's sum is at most the bar too, so that one test tells what enters. Two mentions or more above
 // rank j have their keys read ahead: the array has them where what is read ahead starts, and where they are once a document enters.
+// It is one long function, since the array handed to a function that stands the mentions is copied twice, and that was slower.
 pub fn walk(
     image: &[u8],
-    ms: [Mention; 16],
+    mut ms: [Mention; 16],
     pre: &[u32; 17],
     j: usize,
     q: usize,
-    past: u32,
-    count: u32,
+    mut past: u32,
+    mut count: u32,
     bar: u32,
     budget: u32,
-    room: &mut [u64],
+    room: &mut [u64; ROOM],
 ) -> Visit
-    requires { Starts image.now ms pre.now j q past count × (length room.old ≡ 1056) × (get_or pre.now j 0 ≤ bar) }
+    requires { Starts image.now ms pre.now j q past count × (get_or pre.now j 0 ≤ bar) }
     ensures runs { run_of (index_of image.now).docs result ≡ run_by image.now (meant_of image.now q ms) bar j q budget past count }
-    ensures some { 0 < result.past }
-    ensures leaves { result.turn ≡ Entered → Leaves image.now (meant_of image.now q ms) j result }
+    ensures some { Told result.end }
+    ensures leaves { IfEntered result.end (λ past sum next. Leaves image.now (meant_of image.now q ms) j result past next) }
 {
     let n = q - j;
     let slack = bar - pre[j];
-    let mut ms = ms;
-    let mut past = past;
-    let mut count = count;
-    let mut a = [NONE; 16];
-    let mut b = [NONE; 8];
-    let mut c = [NONE; 4];
-    let mut d = [NONE; 2];
-    let mut next = [0u64; 16];
-    let mut places = [0usize; 16];
-    let mut weights = [0u32; 16];
+    let mut spots = Spots::blank();
     let mut top = NONE;
     if 1 < n {
-        top = sweep::begin(
-            image,
-            ms,
-            j,
-            n,
-            &mut a,
-            &mut b,
-            &mut c,
-            &mut d,
-            &mut next,
-            &mut places,
-            &mut weights,
-            room,
-        );
+        top = spots.begin(image, ms, j, n, room);
     }
     while past != DONE {
-        if (budget as u64) < (count as u64) + (q as u64) {
-            return visit::ended(ms, Turn::Stopped, past, 0, count, past);
+        if u64::from(budget) < u64::from(count) + q as u64 {
+            return Visit {
+                ms,
+                count,
+                end: End::Stopped { past },
+            };
         }
-        let limit = budget - (q as u32);
-        let mut t = Tally { sum: 0, count };
-        if n == 1 {
-            let w = pair::alone(image, ms[j], slack, limit, past, count);
-            let m = w.mention;
-            ms[j] = m;
-            past = w.past;
-            let u = w.tally;
-            t = u;
-            top = visit::key(m.cursor, 0);
-        } else {
-            let mut more = true;
-            while more {
-                let w = sweep::swept(
-                    &mut a,
-                    &mut b,
-                    &mut c,
-                    &mut d,
-                    &mut next,
-                    &mut places,
-                    &weights,
-                    room,
-                    n,
-                    top,
-                    slack,
-                    limit,
-                    past,
-                    t,
-                );
-                let u = w.tally;
-                t = u;
-                past = w.past;
-                top = w.top;
-                more = visit::goes_on(t, slack, limit, (top / 4096) as u32, past);
-                if more {
-                    let here = (top / 4096) as u32;
-                    let p = (top / 256 % 16) as usize;
-                    t = mentions::scored(
-                        visit::carried(t, past, here),
-                        weights[p],
-                        (top % 256) as u32,
-                    );
-                    past = here;
-                    let i = j + p;
-                    let base = p * PART;
-                    let m = ahead::refilled(
-                        image,
-                        ms[i],
-                        top,
-                        places[p] - (base + 1),
-                        p,
-                        base,
-                        room,
-                    );
-                    ms[i] = m;
-                    places[p] = base + 1;
-                    next[p] = room[base + 1];
-                    top = contest::enter(&mut a, &mut b, &mut c, &mut d, n, p, room[base]);
+        let bounds = Bounds {
+            slack,
+            limit: budget - q as u32,
+        };
+        let mut run = Run {
+            top,
+            past,
+            tally: Tally { sum: 0, count },
+        };
+        if 1 < n {
+            loop {
+                run = spots.swept(room, n, run, bounds);
+                let here = (run.top / 4096) as u32;
+                if !visit::goes_on(run.tally, bounds, here, run.past) {
+                    break;
                 }
+                let p = (run.top / 256 % 16) as usize;
+                run.tally = mentions::scored(
+                    visit::carried(run.tally, run.past, here),
+                    spots.weights[p],
+                    (run.top % 256) as u32,
+                );
+                run.past = here;
+                let base = p * PART;
+                let m = ahead::refilled(
+                    image,
+                    ms[j + p],
+                    run.top,
+                    spots.places[p] - (base + 1),
+                    p,
+                    base,
+                    room,
+                );
+                ms[j + p] = m;
+                spots.places[p] = base + 1;
+                spots.next[p] = room[base + 1];
+                run.top = spots.contest.enter(n, p, room[base]);
             }
+        } else {
+            let w = pair::alone(image, ms[j], bounds, past, count);
+            ms[j] = w.mention;
+            run = Run {
+                top: visit::key(w.mention.cursor, 0),
+                past: w.past,
+                tally: w.tally,
+            };
         }
-        let mut i = j;
-        while 0 < i && bar < t.sum + pre[i] {
-            i -= 1;
+        top = run.top;
+        past = run.past;
+        let mut t = run.tally;
+        for i in (0..j).rev() {
+            if t.sum + pre[i + 1] <= bar {
+                break;
+            }
             let mut found = ms[i];
             if found.cursor.past < past {
                 found = visit::sought(image, found, past);
@@ -142,18 +113,34 @@ pub fn walk(
             }
         }
         count = t.count;
-        let later = (top / 4096) as u32;
+        let next = (top / 4096) as u32;
         if bar < t.sum {
-            let mut p: usize = 0;
-            while 1 < n && p < n {
-                let i = j + p;
-                let m = ahead::stood(image, ms[i], a[p], places[p] - (p * PART + 1));
-                ms[i] = m;
-                p += 1;
+            if 1 < n {
+                for p in 0..n {
+                    let i = j + p;
+                    ms[i] = ahead::stood(
+                        image,
+                        ms[i],
+                        spots.contest.keys[p],
+                        spots.places[p] - (p * PART + 1),
+                    );
+                }
             }
-            return visit::ended(ms, Turn::Entered, past, t.sum, count, later);
+            return Visit {
+                ms,
+                count,
+                end: End::Entered {
+                    past,
+                    sum: t.sum,
+                    next,
+                },
+            };
         }
-        past = later;
+        past = next;
     }
-    visit::ended(ms, Turn::Finished, past, 0, count, past)
+    Visit {
+        ms,
+        count,
+        end: End::Finished,
+    }
 }
