@@ -7,6 +7,7 @@
 // 2,305 numbers. Every document scores 16, and the lowest stands first: the row is 0 with 16. No budget is exceeded: the place is 16,231.
 // Modes 0 and 2 score all 16 * 16,231 = 259,696 postings. In mode 1 the sixteen ceilings are 1 each, so that P(i) = i: at document 0 the bar is 0, j is 0
 // and 16 postings are scored; from then on the bar is 16, j is 16, and no mention above it is left.
+// A program of its own, since a program is run once, on the files in its folder.
 #![tactic(auto)]
 
 use std::io;

@@ -9,6 +9,7 @@
 //    At 3 and at 5 the bar is 0 and both mentions are scored. At 9 the bar is 10 and j is 1: 3 * 4 = 12 is scored, 12 + 8 is above 10, and the
 //    other is looked up: 20. Two postings at each: `20 2 6`, then 3 with 20 before 9 with 20.
 // 7. Mode 0, k = 1, term B with weight 255: 5 and 12 with 2,295 each, the lower stands: `20 1 2`, `5 2295`.
+// A program of its own, since a program is run once, on the files in its folder.
 #![tactic(auto)]
 
 use std::io;

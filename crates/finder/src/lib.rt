@@ -46,7 +46,8 @@ pub fn answer(image: &[u8], sheet: &[u32], row: &mut [u32]) -> Outcome
     Outcome::from(answered(image, sheet, row))
 }
 
-// An outcome as one number: 0 for done or the refusal's number, times 2^56, and the count or the place.
+// An outcome as one number, as the C interface has it: 0 for done or the refusal's number, times 2^56, and the count or the place. It is no `From`, which
+// could not ask that both are small.
 #[tactic(auto, unfolding(meaning::specs::Call::says, crate::specs::Code::code_of))]
 fn code(said: Outcome) -> u64
     requires { Small (says said) }
@@ -58,7 +59,7 @@ fn code(said: Outcome) -> u64
     }
 }
 
-// The same call with the outcome as one number: what `finder_c` exports for C and Rust.
+// The same call with the outcome as one number, as the C interface has it: what `finder_c` exports for C and Rust.
 pub fn finder_answer(image: &[u8], sheet: &[u32], row: &mut [u32]) -> u64
     ensures { Exported image.now sheet.now row.old result row.new }
 {

@@ -42,12 +42,11 @@ pub record AloneTo (s : List ℕ) (f : Frame) (slack limit : ℕ) (m : Mention) 
   pub later : m.cursor.past ≡ past → ⊥
 
 -- there is such a walk, and what is left of each
-abbrev pub SomeAlone : List ℕ → Mention → ℕ → ℕ → ℕ → ℕ → Type 0
-SomeAlone s m slack limit past count = (f : Frame) × AloneAt s f m slack limit past (record { sum = 0; count = count })
+abbrev pub SomeAlone : List ℕ → Mention → ℕ → ℕ → ℕ → Tally → Type 0
+SomeAlone s m slack limit past t = (f : Frame) × AloneAt s f m slack limit past t
 
-abbrev pub EachAlone : List ℕ → Mention → ℕ → ℕ → ℕ → ℕ → Mention → ℕ → Tally → Type 0
-EachAlone s m slack limit past count m' past' t =
-    (f : Frame) → AloneAt s f m slack limit past (record { sum = 0; count = count }) → AloneTo s f slack limit m' past' t
+abbrev pub EachAlone : List ℕ → Mention → ℕ → ℕ → ℕ → Tally → Mention → ℕ → Tally → Type 0
+EachAlone s m slack limit past t m' past' t' = (f : Frame) → AloneAt s f m slack limit past t → AloneTo s f slack limit m' past' t'
 
 module _ {s : List ℕ} {f : Frame} {m : Mention} {slack limit past : ℕ} {t : Tally} (x : AloneAt s f m slack limit past t) where
   -- its posting is the next

@@ -7,43 +7,36 @@ ghost use Rattle.pair.specs.Alone.{SomeAlone, EachAlone};
 ghost use Rattle.pair.specs.Pair.{Passed, Back, SomePair, EachPair};
 
 use ahead::{ROOM, Spot};
-use mentions::{Mention, Tally};
-use visit::Bounds;
+use mentions::Mention;
+use visit::{At, Bounds};
 
-// The one mention above rank j where it is left, with the last document plus one and the tally there.
+// The one mention above rank j where it is left, and where the postings are.
 #[derive(Clone, Copy)]
 pub struct Swept {
     pub mention: Mention,
-    pub past: u32,
-    pub tally: Tally,
+    pub at: At,
 }
 
-// Two mentions where they are left in their parts of the room, with the last document plus one and the tally there.
+// Two mentions where they are left in their parts of the room, and where the postings are.
 #[derive(Clone, Copy)]
 pub struct Drawn {
     pub x: Spot,
     pub y: Spot,
-    pub past: u32,
-    pub tally: Tally,
+    pub at: At,
 }
 
 // The one mention above rank j, over its documents: until a document's sum passes the bar less P(j), the stop, or the end.
-pub fn alone(image: &[u8], mut m: Mention, bounds: Bounds, mut past: u32, count: u32) -> Swept
-    requires { SomeAlone image.now m bounds.slack bounds.limit past count }
-    ensures { EachAlone image.now m bounds.slack bounds.limit past count result.mention result.past result.tally }
+pub fn alone(image: &[u8], mut m: Mention, bounds: Bounds, mut at: At) -> Swept
+    requires { SomeAlone image.now m bounds.slack bounds.limit at.past at.tally }
+    ensures { EachAlone image.now m bounds.slack bounds.limit at.past at.tally result.mention result.at.past result.at.tally }
 {
-    let mut t = Tally { sum: 0, count };
-    while visit::goes_on(t, bounds, m.cursor.past, past) {
+    while at.goes_on(bounds, m.cursor.past) {
         let here = m.cursor.past;
-        t = mentions::scored(visit::carried(t, past, here), m.weight, m.cursor.impact);
-        past = here;
+        let tally = mentions::scored(at.carried(here), m.weight, m.cursor.impact);
+        at = At { past: here, tally };
         m = visit::went(image, m);
     }
-    Swept {
-        mention: m,
-        past,
-        tally: t,
-    }
+    Swept { mention: m, at }
 }
 
 // The first of two values where `go` holds, else the second.
@@ -88,23 +81,21 @@ pub fn both(
     v: u32,
     w: u32,
     bounds: Bounds,
-    mut past: u32,
-    tally: Tally,
+    mut at: At,
 ) -> Drawn
-    requires { SomePair x y room.now v w bounds.slack bounds.limit past tally }
-    ensures { EachPair x y room.now v w bounds.slack bounds.limit past tally result.x result.y result.past result.tally }
+    requires { SomePair x y room.now v w bounds.slack bounds.limit at.past at.tally }
+    ensures { EachPair x y room.now v w bounds.slack bounds.limit at.past at.tally result.x result.y result.at.past result.at.tally }
 {
     let first = x.key < y.key;
-    let mut t = tally;
     let mut top = pick(first, x.key, y.key);
     let mut key = pick(first, x.next, y.next);
     let mut weight = pick(first, v, w);
     x = passed(first, x, room);
     y = passed(!first, y, room);
-    while 0 < key && visit::goes_on(t, bounds, (top / 4096) as u32, past) {
+    while 0 < key && at.goes_on(bounds, (top / 4096) as u32) {
         let here = (top / 4096) as u32;
-        t = mentions::scored(visit::carried(t, past, here), weight, (top % 256) as u32);
-        past = here;
+        let tally = mentions::scored(at.carried(here), weight, (top % 256) as u32);
+        at = At { past: here, tally };
         let go = x.key < y.key;
         top = pick(go, x.key, y.key);
         key = pick(go, x.next, y.next);
@@ -116,7 +107,6 @@ pub fn both(
     Drawn {
         x: back(one, x, top, room),
         y: back(!one, y, top, room),
-        past,
-        tally: t,
+        at,
     }
 }

@@ -12,8 +12,9 @@ decided (Some index) (Some sheet) =
     cond (ltb 65536 index || ltb 9220 sheet) (Err TooLarge)
     (cond (eqb (sheet % 4) 0) (Ok tt) (Err OddSheet))
 
--- the line that is printed where no answer is asked for
-unfoldable pub decision_line : Unfit → List ℕ
-decision_line NoFile = 110 ∷ 111 ∷ 32 ∷ 102 ∷ 105 ∷ 108 ∷ 101 ∷ 10 ∷ []
-decision_line TooLarge = 116 ∷ 111 ∷ 111 ∷ 32 ∷ 108 ∷ 97 ∷ 114 ∷ 103 ∷ 101 ∷ 10 ∷ []
-decision_line OddSheet = 111 ∷ 100 ∷ 100 ∷ 32 ∷ 115 ∷ 104 ∷ 101 ∷ 101 ∷ 116 ∷ 10 ∷ []
+-- the line of a decision; an answer is asked for where there is none
+unfoldable pub decision_line : Result (Unit {0}) Unfit → List ℕ
+decision_line (Ok fit) = []
+decision_line (Err NoFile) = 110 ∷ 111 ∷ 32 ∷ 102 ∷ 105 ∷ 108 ∷ 101 ∷ 10 ∷ []
+decision_line (Err TooLarge) = 116 ∷ 111 ∷ 111 ∷ 32 ∷ 108 ∷ 97 ∷ 114 ∷ 103 ∷ 101 ∷ 10 ∷ []
+decision_line (Err OddSheet) = 111 ∷ 100 ∷ 100 ∷ 32 ∷ 115 ∷ 104 ∷ 101 ∷ 101 ∷ 116 ∷ 10 ∷ []

@@ -50,8 +50,9 @@ go_is (Some index) (Some sheet) e =
     let whole = by_test (eqb (sheet % 4) 0) (λ t. eqb-true (sheet % 4) 0 t) (λ f. absurd (cc (rw f at small.1))) in
     (ltb-false 65536 index each.0, (ltb-false 9220 sheet each.1, whole))
 
-pub decision_length : (unfit : Unfit) → length (decision_line unfit) ≤ 10
+pub decision_length : (decision : Result (Unit {0}) Unfit) → length (decision_line decision) ≤ 10
 unfolding decision_line
-decision_length NoFile = omega arith
-decision_length TooLarge = omega arith
-decision_length OddSheet = omega arith
+decision_length (Ok fit) = omega arith
+decision_length (Err NoFile) = omega arith
+decision_length (Err TooLarge) = omega arith
+decision_length (Err OddSheet) = omega arith

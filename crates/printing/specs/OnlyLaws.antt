@@ -16,8 +16,8 @@ module _ (out p q : List ℕ) (m n : ℕ) where
   pub answers_only : (sheet row : List ℕ) → Printable sheet row → Printed sheet row out p m → Printed sheet row out q n → (p ≡ q) × (m ≡ n)
   answers_only sheet row c a b = wrote_only (a c.T c.queries c.accepted) (b c.T c.queries c.accepted)
 
-  pub decision_line_only : (unfit : Unfit) → Wrote 0 (decision_line unfit) out p m → Wrote 0 (decision_line unfit) out q n → (p ≡ q) × (m ≡ n)
-  decision_line_only unfit = wrote_only
+  pub decision_line_only : (decision : Result (Unit {0}) Unfit) → Wrote 0 (decision_line decision) out p m → Wrote 0 (decision_line decision) out q n → (p ≡ q) × (m ≡ n)
+  decision_line_only decision = wrote_only
 
   pub numbers_only : (bytes : List ℕ) → Taken bytes out p m → Taken bytes out q n → (p ≡ q) × (m ≡ n)
   numbers_only bytes a b =

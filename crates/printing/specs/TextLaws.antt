@@ -1,5 +1,5 @@
 -- Laws of the text: a number by its last digit, how long a line can be, and the lines one by one.
-use Rattle.std.specs.Prelude.{◌≡◌, refl, List, [], ◌∷◌, ◌++◌, ℕ, zero, suc, ◌+◌, ◌-◌, ◌*◌, ◌/◌, ◌%◌, ◌^◌, ◌≤◌, ◌<◌, length, get_or, take, drop, map}
+use Rattle.std.specs.Prelude.{◌≡◌, refl, List, [], ◌∷◌, ◌++◌, ℕ, zero, suc, ◌+◌, ◌*◌, ◌/◌, ◌%◌, ◌^◌, ◌≤◌, ◌<◌, length, get_or, take, drop, map}
 use Rattle.std.specs.List.{join_with_byte}
 use Rattle.std.proofs.Common.{sym, ap, ◌∙◌, arith, pow-suc, add-one, lt-ltb, le-ltb, add_assoc, append_assoc, length-append, length-take, get_or-drop}
 use Rattle.std.proofs.lemmas.List.{take_more, map-append, length-map}
@@ -82,7 +82,7 @@ unfolding numbers_line spaced pair_line first_line
 first_is a b c = simp append_assoc
 
 -- how long the lines can be
-pub spaced_length : (numbers : List ℕ) → length (spaced numbers) ≤ 21 * length numbers - 1
+pub spaced_length : (numbers : List ℕ) → length (spaced numbers) ≤ 21 * length numbers
 unfolding spaced
 spaced_length [] = omega arith
 spaced_length (x ∷ []) = omega (arith, decimal_length x)

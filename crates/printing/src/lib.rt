@@ -1,7 +1,7 @@
 // What the printing program prints, laid into a lent buffer, and what it decides and reads before. Document 01, "The printing program".
 #![tactic(auto)]
 
-ghost use Rattle.std.specs.Prelude.{◌≡◌, ◌+◌, ◌*◌, ◌≤◌, [], ◌∷◌, max, length, get_or};
+ghost use Rattle.std.specs.Prelude.{◌≡◌, ◌+◌, ◌*◌, ◌≤◌, [], ◌∷◌, length, get_or};
 ghost use Rattle.printing.specs.Text.{decimal as text_decimal};
 ghost use Rattle.printing.specs.Text.{numbers_line, answer_lines, refused_line};
 ghost use Rattle.printing.specs.Laid.{Wrote, Within, Starts, Lays};
@@ -65,7 +65,7 @@ impl<'a> Page<'a> {
 
     // Numbers on a line.
     fn line(&mut self, numbers: &[u64])
-        requires { Within self.old.at (max 1 (21 * length numbers.now)) }
+        requires { Within self.old.at (21 * length numbers.now + 1) }
         ensures { Lays (numbers_line numbers.now) self.old self.new }
     {
         for (i, &number) in numbers.iter().enumerate() {
@@ -80,7 +80,7 @@ impl<'a> Page<'a> {
     // The answer in a stretch: its first line, and as many rows as it found.
     fn answer(&mut self, stretch: &[u32])
         requires rows { 3 + 2 * get_or stretch.now 1 0 ≤ length stretch.now }
-        requires within { Within self.old.at (63 + 42 * get_or stretch.now 1 0) }
+        requires within { Within self.old.at (64 + 42 * get_or stretch.now 1 0) }
         ensures { Lays (answer_lines stretch.now 0) self.old self.new }
     {
         let found = stretch[1];
@@ -140,15 +140,16 @@ pub fn decide(index: Option<usize>, sheet: Option<usize>) -> Result<(), Unfit>
     Ok(())
 }
 
-// The line that is printed where no answer is asked for.
-pub fn decision_line(out: &mut [u8], unfit: Unfit) -> usize
-    ensures { Wrote 0 (decision_line unfit) out.old out.new result }
+// The line of a decision; none where an answer is to be asked for.
+pub fn decision_line(out: &mut [u8], decision: Result<(), Unfit>) -> usize
+    ensures { Wrote 0 (decision_line decision) out.old out.new result }
 {
     let mut page = Page::new(out);
-    match unfit {
-        Unfit::NoFile => page.words(b"no file\n"),
-        Unfit::TooLarge => page.words(b"too large\n"),
-        Unfit::OddSheet => page.words(b"odd sheet\n"),
+    match decision {
+        Ok(()) => {}
+        Err(Unfit::NoFile) => page.words(b"no file\n"),
+        Err(Unfit::TooLarge) => page.words(b"too large\n"),
+        Err(Unfit::OddSheet) => page.words(b"odd sheet\n"),
     }
     page.at
 }

@@ -24,7 +24,7 @@ call_lines image sheet row = said_lines (call image sheet row).said (queries_of 
 
 -- and for a decision: its own line, or that of the call
 unfoldable pub decided_lines : Result (Unit {0}) Unfit → List ℕ → List ℕ
-decided_lines (Err unfit) lines = decision_line unfit
+decided_lines (Err unfit) lines = decision_line (Err unfit)
 decided_lines (Ok fit) lines = lines
 
 -- the two files: the bytes of each, where it is there. 64 queries of k = 64 fill 8,384 numbers

@@ -64,14 +64,14 @@ go_printed index sheet e w = rw (← e) w
 module _ (index sheet : Option (List ℕ)) where
   pub other_printed :
       {out after : List ℕ} {next : ℕ} {unfit : Unfit} →
-      Err unfit ≡ decided (option_map length index) (option_map length sheet) → Wrote 0 (decision_line unfit) out after next →
+      Err unfit ≡ decided (option_map length index) (option_map length sheet) → Wrote 0 (decision_line (Err unfit)) out after next →
       Wrote 0 (program_lines index sheet) out after next
   unfolding program_lines decided_lines
   other_printed e w = rw (← e) w
 
 decided_fit : (d : Result (Unit {0}) Unfit) (lines : List ℕ) → length lines ≤ 176064 → length (decided_lines d lines) ≤ 176064
 unfolding decided_lines
-decided_fit (Err unfit) lines h = omega (arith, decision_length unfit)
+decided_fit (Err unfit) lines h = omega (arith, decision_length (Err unfit))
 decided_fit (Ok fit) lines h = h
 
 module _ (index sheet : Option (List ℕ)) where

@@ -55,7 +55,7 @@ pub fn printed(out: &mut [u8], index: Option<&[u8]>, sheet: Option<&[u8]>) -> us
     let index_bytes = index.map(|file| file.len());
     let sheet_bytes = sheet.map(|file| file.len());
     if let Err(unfit) = printing::decide(index_bytes, sheet_bytes) {
-        return printing::decision_line(out, unfit);
+        return printing::decision_line(out, Err(unfit));
     }
     let mut numbers = [0; 2305];
     let n = printing::numbers(sheet.unwrap(), &mut numbers);

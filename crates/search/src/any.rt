@@ -7,7 +7,7 @@ use mentions::{ByCeiling, Mention};
 use ranking::Table;
 use visit::End;
 
-// A query in mode 1, or in mode 0, in which no mention is ever set aside.
+// A query in mode 1 where it is pruned, or in mode 0, in which no mention is ever set aside. A bool tells which, since a query in mode 2 has no such walk.
 pub fn any_term(
     image: &[u8],
     ms: [Mention; 16],
@@ -22,6 +22,7 @@ pub fn any_term(
 {
     let mut ms = mentions::order::<ByCeiling>(ms, q);
     let pre = mentions::prefix(ms, q);
+    // a number is chosen here, and no step: both modes go by the same walk
     let limit = if pruned { q } else { 0 };
     let mut table = Table::empty(k);
     let mut count = 0;

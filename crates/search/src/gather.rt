@@ -6,7 +6,8 @@ ghost use Rattle.search.specs.Gather.{Begins, Pairs, Gathered};
 
 use mentions::Mention;
 
-// One mention, at its list's first posting.
+// One mention, at its list's first posting. That the image is accepted is asked by a clause, here and where lists are opened: it is a fact about its
+// bytes, of which all that the walks show speaks too.
 fn mention(image: &[u8], term: u32, weight: u32) -> Mention
     requires { Accepted image.now × (term < length (index_of image.now).terms) × (0 < weight) × (weight ≤ 255) }
     ensures { Begins image.now term weight result }

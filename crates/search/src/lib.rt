@@ -33,6 +33,7 @@ pub fn answer_query(image: &[u8], query: Record, docs: u32, out: &mut [u32])
     let k = query.k;
     let budget = query.budget;
     let ms = gather::gather(image, query.pairs);
+    // "one of three named kinds inside the query's record", matched from a local
     let mode = query.mode;
     let found = match mode {
         Mode::Plain => any::any_term(image, ms, q, k, budget, docs, false),

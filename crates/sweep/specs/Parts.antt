@@ -53,8 +53,9 @@ pub record Later (s : List ℕ) (f : Frame) (ms : List Mention) (n : ℕ) (z : S
 
 -- there is such a walk, and what is left of each
 abbrev pub SomeParts : ℕ → Spots → List ℕ → Run → Bounds → Type 0
-SomeParts n z room r b = (s : List ℕ) × (f : Frame) × (ms : List Mention) × PartsAt s f ms n z room r.top b.slack b.limit r.past r.tally
+SomeParts n z room r b = (s : List ℕ) × (f : Frame) × (ms : List Mention) × PartsAt s f ms n z room r.top b.slack b.limit r.at.past r.at.tally
 
 abbrev pub EachParts : ℕ → Spots → List ℕ → Run → Bounds → Spots → Run → Type 0
 EachParts n z room r b z' r' =
-    (s : List ℕ) (f : Frame) (ms : List Mention) → PartsAt s f ms n z room r.top b.slack b.limit r.past r.tally → Later s f ms n z' room r'.top b.slack b.limit r'.past r'.tally r.top
+    (s : List ℕ) (f : Frame) (ms : List Mention) → PartsAt s f ms n z room r.top b.slack b.limit r.at.past r.at.tally →
+    Later s f ms n z' room r'.top b.slack b.limit r'.at.past r'.at.tally r.top

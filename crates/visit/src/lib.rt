@@ -39,8 +39,41 @@ pub struct Bounds {
     pub limit: u32,
 }
 
+// Where the postings are: the last document plus one, and the tally there.
+#[derive(Clone, Copy)]
+pub struct At {
+    pub past: u32,
+    pub tally: Tally,
+}
+
+impl At {
+    // Whether postings are taken on: the one at hand is of the same document, or it is of a document that is visited after one that is dropped,
+    // whose sum and count keep to the bounds.
+    pub fn goes_on(self, bounds: Bounds, here: u32) -> bool
+        ensures { (result ≡ true → (here ≡ self.past) ⊎ ((self.tally.sum ≤ bounds.slack) × (self.tally.count ≤ bounds.limit) × (here ≡ 4294967295 → ⊥)))
+            × (result ≡ false → here ≡ self.past → ⊥) }
+    {
+        (self.tally.sum <= bounds.slack && self.tally.count <= bounds.limit && here != DONE)
+            || here == self.past
+    }
+
+    // The tally at the next posting's document: as it is where that is the same, else with the sum of a new document.
+    pub fn carried(self, here: u32) -> Tally
+        ensures { (here ≡ self.past → result ≡ self.tally) × ((here ≡ self.past → ⊥) → result ≡ record { sum = 0; count = self.tally.count }) }
+    {
+        if here == self.past {
+            self.tally
+        } else {
+            Tally {
+                sum: 0,
+                ..self.tally
+            }
+        }
+    }
+}
+
 // A posting as one number, by which postings are ordered by document and then by mention: the document plus one, the mention's place above
-// rank j, and the impact.
+// rank j, and the impact. The place is a number below 16 and no type of its own, as it is an index, made and taken out at every key.
 pub fn key(c: Cursor, p: usize) -> u64
     requires { p < 16 }
     ensures { result ≡ key_of c p }
@@ -83,25 +116,5 @@ pub fn sought(image: &[u8], m: Mention, past: u32) -> Mention
     Mention {
         cursor: cursor::seek(image, m.cursor, past),
         ..m
-    }
-}
-
-// Whether postings are taken on: the one at hand is of the same document, or it is of a document that is visited after one that is dropped,
-// whose sum and count keep to the bounds.
-pub fn goes_on(t: Tally, bounds: Bounds, here: u32, past: u32) -> bool
-    ensures { (result ≡ true → (here ≡ past) ⊎ ((t.sum ≤ bounds.slack) × (t.count ≤ bounds.limit) × (here ≡ 4294967295 → ⊥)))
-        × (result ≡ false → here ≡ past → ⊥) }
-{
-    (t.sum <= bounds.slack && t.count <= bounds.limit && here != DONE) || here == past
-}
-
-// A tally at the next posting's document: as it is where that is the same, else with the sum of a new document.
-pub fn carried(t: Tally, past: u32, here: u32) -> Tally
-    ensures { (here ≡ past → result ≡ t) × ((here ≡ past → ⊥) → result ≡ record { sum = 0; count = t.count }) }
-{
-    if here == past {
-        t
-    } else {
-        Tally { sum: 0, ..t }
     }
 }

@@ -9,7 +9,7 @@ ghost use Rattle.visit.specs.Walk.{meant_of, Starts, run_of, run_by, Told, IfEnt
 use ahead::{PART, ROOM};
 use mentions::{Mention, Tally};
 use sweep::{NONE, Run, Spots};
-use visit::{Bounds, DONE, End, Visit};
+use visit::{At, Bounds, DONE, End, Visit};
 
 // The documents from past - 1 on that a mention above rank j holds, under one bar, with `count` postings scored before them: up to the
 // first that enters the table, the one before which the query stops, or the end. The stop rule is asked before anything of a document
@@ -53,25 +53,25 @@ pub fn walk(
             slack,
             limit: budget - q as u32,
         };
-        let mut run = Run {
-            top,
+        let at = At {
             past,
             tally: Tally { sum: 0, count },
         };
+        let mut run = Run { top, at };
         if 1 < n {
             loop {
                 run = spots.swept(room, n, run, bounds);
                 let here = (run.top / 4096) as u32;
-                if !visit::goes_on(run.tally, bounds, here, run.past) {
+                if !run.at.goes_on(bounds, here) {
                     break;
                 }
                 let p = (run.top / 256 % 16) as usize;
-                run.tally = mentions::scored(
-                    visit::carried(run.tally, run.past, here),
+                let tally = mentions::scored(
+                    run.at.carried(here),
                     spots.weights[p],
                     (run.top % 256) as u32,
                 );
-                run.past = here;
+                run.at = At { past: here, tally };
                 let base = p * PART;
                 let m = ahead::refilled(
                     image,
@@ -88,17 +88,16 @@ pub fn walk(
                 run.top = spots.contest.enter(n, p, room[base]);
             }
         } else {
-            let w = pair::alone(image, ms[j], bounds, past, count);
+            let w = pair::alone(image, ms[j], bounds, at);
             ms[j] = w.mention;
             run = Run {
                 top: visit::key(w.mention.cursor, 0),
-                past: w.past,
-                tally: w.tally,
+                at: w.at,
             };
         }
         top = run.top;
-        past = run.past;
-        let mut t = run.tally;
+        past = run.at.past;
+        let mut t = run.at.tally;
         for i in (0..j).rev() {
             if t.sum + pre[i + 1] <= bar {
                 break;

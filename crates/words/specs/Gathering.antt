@@ -109,20 +109,20 @@ module _ (w k L : ℕ) (row : List ℕ) where
 
   -- one word more, by masks of which each is below 2 ^ 57
   pub weighed_more :
-      (i gaps bad hit gap impact guard above equal : ℕ) →
-      gap ≡ (1 * 2 ^ w % 2 ^ 64 - 1) * 256 * ones → impact ≡ 255 * ones → guard ≡ 256 * ones → above ≡ (255 - L) * ones → equal ≡ (256 - L) * ones →
+      (S i gaps bad hit gap impact guard above equal : ℕ) → S ≡ w + 8 → gap ≡ (1 * 2 ^ w % 2 ^ 64 - 1) * 256 * ones_of S k →
+      impact ≡ 255 * ones_of S k → guard ≡ 256 * ones_of S k → above ≡ (255 - L) * ones_of S k → equal ≡ (256 - L) * ones_of S k →
       gap < 2 ^ 57 → impact < 2 ^ 57 → guard < 2 ^ 57 → above < 2 ^ 57 → equal < 2 ^ 57 →
       0 < w → w ≤ 24 → L ≤ 255 → i < 128 → bad < 2 ^ 64 → hit < 2 ^ 64 → Weighed w k L row i gaps bad hit →
       let m = bit_and (get_or row i 0) impact in
       Weighed w k L row (i + 1) (gaps + bit_and (get_or row i 0) gap) (bit_or bad (bit_or (m + above) (guard - m))) (bit_or hit (m + equal))
   unfolding sum_words
-  weighed_more i gaps bad hit gap impact guard above equal eg em ed ea ee lg lm ld la le some few byte less b h x =
+  weighed_more S i gaps bad hit gap impact guard above equal es eg em ed ea ee lg lm ld la le some few byte less b h x =
       let v = get_or row i 0 in
       let m = bit_and v impact in
       let most = and_le_r v impact in
       let least = and_le_r v gap in
       let shift : 1 * 2 ^ w % 2 ^ 64 ≡ 2 ^ w = one_shl w 64 (omega arith) in
-      let g : gap ≡ (2 ^ w - 1) * 256 * ones = rw shift at eg in
+      let g : gap ≡ (2 ^ w - 1) * 256 * ones = rw (shift, es) at eg in
       let p : m + above < 2 ^ 64 = omega arith in
       let q : guard - m < 2 ^ 64 = omega arith in
       let r : m + equal < 2 ^ 64 = omega arith in
@@ -133,18 +133,18 @@ module _ (w k L : ℕ) (row : List ℕ) where
         fair = λ e.
             let all = clear_both bad (bit_or (m + above) (guard - m)) (256 * ones) b (or_lt 64 (m + above) (guard - m) p q) e in
             let two = clear_both (m + above) (guard - m) (256 * ones) p q all.1 in
-            rw (x.fair all.0, no_fault w k L v some byte (rw (em, ea) at two.0) (rw (em, ed) at two.1));
+            rw (x.fair all.0, no_fault w k L v some byte (rw (em, ea, es) at two.0) (rw (em, ed, es) at two.1));
         reached = λ e.
-            both_clear hit (m + equal) (256 * ones) h r (x.reached (omega arith)) (rw (em, ee) (no_reach w k L v some byte (omega arith)));
+            both_clear hit (m + equal) (256 * ones) h r (x.reached (omega arith)) (rw (em, ee, es) (no_reach w k L v some byte (omega arith)));
       })
 
 -- all of them
 pub weighed_all :
-    {w k L n i gaps bad hit guard total : ℕ} {row : List ℕ} → Weighed w k L row i gaps bad hit → i ≡ n → guard ≡ 256 * ones_of (w + 8) k →
-    total ≡ sum_lanes (λ y. y) (w + 8) (gaps / 256) k → total ≤ 25769803776 → Weighs w k L row n total (eqb (bit_and bad guard) 0) (not (eqb (bit_and hit guard) 0))
-weighed_all x ei ed e small =
-    rw (← ei, ed)
-    (record { sum = e ∙ x.gathered.sum; small = small; fair = λ z. x.fair (eqb-true _ 0 z); reached = λ z. rw (x.reached z) })
+    {w k L n i gaps bad hit guard total S : ℕ} {row : List ℕ} → Weighed w k L row i gaps bad hit → i ≡ n → S ≡ w + 8 → guard ≡ 256 * ones_of S k →
+    total ≡ sum_lanes (λ y. y) S (gaps / 256) k → total ≤ 25769803776 → Weighs w k L row n total (eqb (bit_and bad guard) 0) (not (eqb (bit_and hit guard) 0))
+weighed_all x ei es ed e small =
+    rw (← ei, ed, es)
+    (record { sum = rw es at e ∙ x.gathered.sum; small = small; fair = λ z. x.fair (eqb-true _ 0 z); reached = λ z. rw (x.reached z) })
 
 -- p words of k fields each from bit `start` on, and p words from bit `other` on, are the first of a row: sums over lanes are sums over fields
 pub record Halves (s : List ℕ) (S k start other p : ℕ) (row : List ℕ) : Type 0 where

@@ -7,14 +7,13 @@ ghost use Rattle.meaning.specs.Bits.{bits_at};
 ghost use Rattle.words.specs.Lanes.{Packs, Packed, Word, Bytewise, sum_lanes, sum_at, sum_words, ones_of};
 ghost use Rattle.words.specs.Gathering.{Halves, Added, Filled, Weighs};
 
-// How a block's postings with gaps of `width` bits are read, `count` to a word; `ones` has a 1 in the lowest bit of each.
+// How a block's postings of `stride` bits are read, `count` to a word; `ones` has a 1 in the lowest bit of each.
 #[derive(Clone, Copy)]
 pub struct Lanes {
-    pub width: usize,
+    pub stride: usize,
     pub count: usize,
     pub ones: u64,
-    pub ghost packs: { Packs width count },
-    pub ghost marks: { ones ≡ ones_of (width + 8) count },
+    pub ghost marks: { ones ≡ ones_of stride count },
 }
 
 // What weighing words says: the sum of the gaps; `fair` only where each impact is 1 to the largest, and `hit` only where one is the largest.
@@ -40,19 +39,6 @@ fn per_word(w: usize) -> usize
     }
 }
 
-// A 1 in the lowest bit of each of k lanes.
-#[tactic(auto, using(crate::specs::Lanes::ones_none))]
-fn ones_of(stride: usize, k: usize) -> u64
-    requires { (0 < stride) × (stride ≤ 32) × (k * stride ≤ 57) }
-    ensures { result ≡ ones_of stride k }
-{
-    let mut ones: u64 = 0;
-    for _ in 0..k {
-        ones = (ones << stride) + 1;
-    }
-    ones
-}
-
 // The 57 bits from bit `shift` of byte `byte` on, below what stands before them in their byte.
 #[tactic(auto, using(crate::specs::Lanes::word_low))]
 fn word_at(part: &[u8], byte: usize, shift: usize) -> u64
@@ -74,26 +60,38 @@ fn lower(room: &mut [u64; 128], words: usize)
 }
 
 impl Lanes {
-    // The lanes of gaps of `width` bits.
+    // The lanes of postings with gaps of `width` bits, as many as go into a word.
     pub fn new(width: usize) -> Lanes
         requires { width ≤ 24 }
-        ensures { result.width ≡ width }
+        ensures { (result.stride ≡ width + 8) × Packs width result.count }
     {
-        let count = per_word(width);
+        Lanes::of(width + 8, per_word(width))
+    }
+
+    // `count` lanes of `stride` bits.
+    #[tactic(auto, using(crate::specs::Lanes::ones_none))]
+    pub fn of(stride: usize, count: usize) -> Lanes
+        requires { (0 < stride) × (stride ≤ 32) × (count * stride ≤ 57) }
+        ensures { (result.stride ≡ stride) × (result.count ≡ count) }
+    {
+        let mut ones: u64 = 0;
+        for _ in 0..count {
+            ones = (ones << stride) + 1;
+        }
         Lanes {
-            width,
+            stride,
             count,
-            ones: ones_of(width + 8, count),
+            ones,
         }
     }
 
     // Words two at a time: those from bit `start` on, and those `far` bytes later. Both begin at the same bit of a byte.
     #[tactic(auto, using(crate::specs::Gathering::halves_none, crate::specs::Gathering::halves_more))]
     fn fill(self, part: &[u8], start: usize, far: usize, pairs: usize, room: &mut [u64; 128])
-        requires { (Packed part.now (self.width + 8) self.count (start + 8 * far) (pairs * self.count)) × (57 ≤ start + self.count * (self.width + 8)) × (2 * pairs ≤ 128) }
-        ensures { Halves part.now (self.width + 8) self.count start (start + 8 * far) pairs room.new }
+        requires { (Packed part.now self.stride self.count (start + 8 * far) (pairs * self.count)) × (57 ≤ start + self.count * self.stride) × (2 * pairs ≤ 128) }
+        ensures { Halves part.now self.stride self.count start (start + 8 * far) pairs room.new }
     {
-        let step = self.count * (self.width + 8);
+        let step = self.count * self.stride;
         let mut at = start + step - 57;
         for i in 0..pairs {
             let byte = at / 8;
@@ -107,10 +105,10 @@ impl Lanes {
 
     // The word of the r postings from bit `at` on, with an impact of 1 and no gap for each of the `count` that is not there.
     fn rest_word(self, part: &[u8], at: usize, r: usize) -> u64
-        requires { (Packed part.now (self.width + 8) self.count at r) × (r ≤ self.count) }
-        ensures { Word part.now (self.width + 8) self.count at r result }
+        requires { (Packed part.now self.stride self.count at r) × (r ≤ self.count) }
+        ensures { Word part.now self.stride self.count at r result }
     {
-        let cut = r * (self.width + 8);
+        let cut = r * self.stride;
         let byte = at / 8;
         bits::field(&part[byte..], at % 8, cut) + (self.ones >> cut << cut)
     }
@@ -118,8 +116,8 @@ impl Lanes {
     // The r postings from bit `at` on, if any, as one word after the first `done`; what is given is the number of words then.
     #[tactic(auto, using(crate::specs::Gathering::added_none, crate::specs::Gathering::added_one))]
     fn fill_end(self, part: &[u8], at: usize, r: usize, done: usize, room: &mut [u64; 128]) -> usize
-        requires { (Packed part.now (self.width + 8) self.count at r) × (r ≤ self.count) × (done + r ≤ 128) }
-        ensures { Added part.now (self.width + 8) self.count at r room.old done room.new result }
+        requires { (Packed part.now self.stride self.count at r) × (r ≤ self.count) × (done + r ≤ 128) }
+        ensures { Added part.now self.stride self.count at r room.old done room.new result }
     {
         if r == 0 {
             return done;
@@ -138,10 +136,10 @@ impl Lanes {
         done: usize,
         room: &mut [u64; 128],
     ) -> usize
-        requires { (Packed part.now (self.width + 8) self.count start n) × (done + n ≤ 128) }
-        ensures { Added part.now (self.width + 8) self.count start n room.old done room.new result }
+        requires { (Packed part.now self.stride self.count start n) × (done + n ≤ 128) }
+        ensures { Added part.now self.stride self.count start n room.old done room.new result }
     {
-        let step = self.count * (self.width + 8);
+        let step = self.count * self.stride;
         let words = n.div_ceil(self.count);
         for i in 0..words {
             let r = self.count.min(n - i * self.count);
@@ -153,16 +151,16 @@ impl Lanes {
     // The n postings from bit `start` on; what is given is the number of words. Eight postings take whole bytes, so that two halves of 8m postings
     // are read side by side; then what is left of both, and what comes after them.
     pub fn read(self, part: &[u8], start: usize, n: usize, room: &mut [u64; 128]) -> usize
-        requires { (Packed part.now (self.width + 8) self.count start n) × (57 ≤ start + self.count * (self.width + 8)) × (n ≤ 128) }
-        ensures { Filled part.now (self.width + 8) self.count start n room.new result }
+        requires { (Packed part.now self.stride self.count start n) × (57 ≤ start + self.count * self.stride) × (n ≤ 128) }
+        ensures { Filled part.now self.stride self.count start n room.new result }
     {
         let m = n / 16;
         let half = 8 * m;
-        let far = m * (self.width + 8);
+        let far = m * self.stride;
         let pairs = half / self.count;
         self.fill(part, start, far, pairs, room);
         let whole = pairs * self.count;
-        let at = start + whole * (self.width + 8);
+        let at = start + whole * self.stride;
         let near = self.fill_end(part, at, half - whole, 2 * pairs, room);
         let both = self.fill_end(part, at + 8 * far, half - whole, near, room);
         self.fill_rest(part, start + 16 * far, n - 2 * half, both, room)
@@ -171,15 +169,15 @@ impl Lanes {
     // What the lanes of a word come to, where 8 bits stand below each.
     #[tactic(auto, using(crate::specs::Lanes::lane_low, crate::specs::Lanes::lanes_none, crate::specs::Lanes::lanes_turn))]
     fn total(self, gaps: u64) -> u64
-        ensures { (result ≡ sum_lanes (λ y. y) (self.width + 8) (gaps / 256) self.count) × (result ≤ 25769803776) }
+        requires { (self.stride ≤ 32) × (self.count ≤ 6) }
+        ensures { (result ≡ sum_lanes (λ y. y) self.stride (gaps / 256) self.count) × (result ≤ 25769803776) }
     {
-        let stride = self.width + 8;
-        let lane: u64 = 1 << stride;
+        let lane: u64 = 1 << self.stride;
         let mut sum: u64 = 0;
         let mut rest = gaps / 256;
         for _ in 0..self.count {
             sum += rest % lane;
-            rest >>= stride;
+            rest >>= self.stride;
         }
         sum
     }
@@ -187,8 +185,8 @@ impl Lanes {
     // A number in each lane.
     #[tactic(auto, using(crate::specs::Lanes::lane_fits))]
     fn each(self, x: u64) -> u64
-        requires { x < 2 ^ (self.width + 8) }
-        ensures { (result ≡ x * ones_of (self.width + 8) self.count) × (result < 2 ^ 57) }
+        requires { (x < 2 ^ self.stride) × (self.count * self.stride ≤ 57) }
+        ensures { (result ≡ x * ones_of self.stride self.count) × (result < 2 ^ 57) }
     {
         x * self.ones
     }
@@ -196,10 +194,11 @@ impl Lanes {
     // The words of a row; `largest` is the block's as its head has it. A gap's lowest bit is left to tell of the impact below.
     #[tactic(auto, using(crate::specs::Lanes::lane_wide, crate::specs::Gathering::weighed_none, crate::specs::Gathering::weighed_more))]
     fn weigh_lanes(self, row: &[u64], largest: u64) -> Weight
-        requires { (0 < self.width) × (largest ≤ 255) × (length row.now ≤ 128) }
-        ensures { Weighs self.width self.count largest row.now (length row.now) result.gaps result.fair result.hit }
+        requires { (8 < self.stride) × (Packs (self.stride - 8) self.count) × (largest ≤ 255) × (length row.now ≤ 128) }
+        ensures { Weighs (self.stride - 8) self.count largest row.now (length row.now) result.gaps result.fair result.hit }
     {
-        let gap = self.each(((1 << self.width) - 1) * 256);
+        let width = self.stride - 8;
+        let gap = self.each(((1 << width) - 1) * 256);
         let impact = self.each(255);
         let guard = self.each(256);
         let above = self.each(255 - largest);
@@ -222,17 +221,12 @@ impl Lanes {
 
     // The first `words` words. Impacts with no gaps between them are taken two to a lane, and all words twice.
     pub fn weigh(self, room: &mut [u64; 128], words: usize, largest: u64) -> Weight
-        requires { (largest ≤ 255) × (words ≤ 128) × (words * self.count ≤ 128 + 3 * self.count) }
-        ensures { Weighs self.width self.count largest room.old words result.gaps result.fair result.hit }
+        requires { (8 ≤ self.stride) × (Packs (self.stride - 8) self.count) × (largest ≤ 255) × (words ≤ 128) × (words * self.count ≤ 128 + 3 * self.count) }
+        ensures { Weighs (self.stride - 8) self.count largest room.old words result.gaps result.fair result.hit }
     {
-        if self.width == 0 {
+        if self.stride == 8 {
             lower(room, words);
-            let bytes = Lanes {
-                width: 8,
-                count: 3,
-                ones: ones_of(16, 3),
-            };
-            let both = bytes.weigh_lanes(&room[..2 * words], largest);
+            let both = Lanes::of(16, 3).weigh_lanes(&room[..2 * words], largest);
             return Weight { gaps: 0, ..both };
         }
         self.weigh_lanes(&room[..words], largest)

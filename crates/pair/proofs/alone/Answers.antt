@@ -15,4 +15,4 @@ pub loop-bounds-preserved : goal.loop-bounds-preserved
 loop-bounds-preserved c =
     λ f x.
     let y = alone_here (c.loop-bounds.invariant f x) (c.goes_on.ensures.0 c.loop-bounds-test.true) c.carried.ensures in
-    alone_again f c.loop-bounds.m (alone_on y c.went-m.ensures c.scored-t.ensures)
+    alone_again f c.loop-bounds.m (alone_on y c.went-m.ensures c.scored-tally.ensures)

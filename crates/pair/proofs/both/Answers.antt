@@ -9,12 +9,12 @@ use Rattle.pair.proofs.both.Goals as goal
 
 -- one turn
 module _ {s : List ℕ} {f : Frame} {a b : Mention} {X Y : Spot} (c : goal.After-passed-y-in-loop-key) (k : Eager s f a b X Y c.args.room.now c.args.v c.args.w c.args.bounds.slack c.args.bounds.limit
-    c.loop-key.past c.loop-key.t c.loop-key.top c.loop-key.key c.loop-key.weight c.loop-key.x c.loop-key.y) where
-  turn : Changed s (with_ms f k.walk.ms) a b c.loop-key.x c.loop-key.y c.args.room.now c.args.bounds.slack c.args.bounds.limit (c.loop-key.top / 4096) c.scored-t.result c.loop-key.top
-  turn = eager_on k (c.goes_on.ensures.0 c.if-goes_on.true) c.carried.ensures c.scored-t.ensures c.loop-key-test.true
+    c.loop-key.at.past c.loop-key.at.tally c.loop-key.top c.loop-key.key c.loop-key.weight c.loop-key.x c.loop-key.y) where
+  turn : Changed s (with_ms f k.walk.ms) a b c.loop-key.x c.loop-key.y c.args.room.now c.args.bounds.slack c.args.bounds.limit (c.loop-key.top / 4096) c.scored-tally.result c.loop-key.top
+  turn = eager_on k (c.goes_on.ensures.0 c.if-goes_on.true) c.carried.ensures c.scored-tally.ensures c.loop-key-test.true
 
   -- the places after the next posting
-  again : Eager s f a b c.loop-key.x c.loop-key.y c.args.room.now c.args.v c.args.w c.args.bounds.slack c.args.bounds.limit (c.loop-key.top / 4096) c.scored-t.result
+  again : Eager s f a b c.loop-key.x c.loop-key.y c.args.room.now c.args.v c.args.w c.args.bounds.slack c.args.bounds.limit (c.loop-key.top / 4096) c.scored-tally.result
       c.pick-top-in-loop-key.result c.pick-key-in-loop-key.result c.pick-weight-in-loop-key.result c.passed-x-in-loop-key.result c.passed-y-in-loop-key.result
   again =
       record {
@@ -38,8 +38,8 @@ overflow_cast-top c = let r = c.requires in omega (arith, eager_cast (c.loop-key
 pub overflow_cast-here : goal.overflow_cast-here
 overflow_cast-here c = let r = c.requires in omega (arith, eager_cast (c.loop-key.invariant r.0 r.1 r.2 r.3 r.4 r.5 r.6).2)
 
-pub scored-t-requires : goal.scored-t-requires
-scored-t-requires c =
+pub scored-tally-requires : goal.scored-tally-requires
+scored-tally-requires c =
     let r = c.requires in
     eager_scores (c.loop-key.invariant r.0 r.1 r.2 r.3 r.4 r.5 r.6).2 (c.goes_on.ensures.0 c.if-goes_on.true) c.carried.ensures
 

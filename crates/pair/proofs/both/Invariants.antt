@@ -8,8 +8,8 @@ use Rattle.pair.specs.Eager.{Eager}
 use Rattle.pair.proofs.both.Given as goal
 
 abbrev pub invariant-loop-key : goal.invariant-loop-key
-invariant-loop-key l = (s : List ℕ) (f : Frame) (a b : Mention) → PairAt s f a b l.fn.x l.fn.y l.room l.bounds.slack l.bounds.limit l.fn.past l.fn.tally → l.v ≡ a.weight → l.w ≡ b.weight →
-    (X : Spot) × (Y : Spot) × Eager s f a b X Y l.room l.v l.w l.bounds.slack l.bounds.limit l.past l.t l.top l.key l.weight l.x l.y × (min l.fn.x.key l.fn.y.key ≤ l.top)
+invariant-loop-key l = (s : List ℕ) (f : Frame) (a b : Mention) → PairAt s f a b l.fn.x l.fn.y l.room l.bounds.slack l.bounds.limit l.fn.at.past l.fn.at.tally → l.v ≡ a.weight → l.w ≡ b.weight →
+    (X : Spot) × (Y : Spot) × Eager s f a b X Y l.room l.v l.w l.bounds.slack l.bounds.limit l.at.past l.at.tally l.top l.key l.weight l.x l.y × (min l.fn.x.key l.fn.y.key ≤ l.top)
 
 abbrev pub decreases-loop-key : goal.decreases-loop-key
 decreases-loop-key l = 18446744073709551616 - l.top

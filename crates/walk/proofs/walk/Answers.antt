@@ -62,8 +62,8 @@ overflow_cast-here c =
     let l = c.swept-run.ensures.parts _ _ _ c.loop-bounds.invariant.at in
     omega (arith, (parts_next l.at).fits)
 
-pub scored-run-requires : goal.scored-run-requires
-scored-run-requires c =
+pub scored-tally-requires : goal.scored-tally-requires
+scored-tally-requires c =
     let l = c.swept-run.ensures.parts _ _ _ c.loop-bounds.invariant.at in
     parts_scores l.at (parts_here l.at (c.goes_on.ensures.0 c.if-not-goes_on.false) c.carried.ensures)
 
@@ -107,7 +107,7 @@ loop-bounds-preserved c =
     let m = parts_here l.at (c.goes_on.ensures.0 c.if-not-goes_on.false) c.carried.ensures in
     record {
       ns = _;
-      at = fill_parts l.at m c.refilled-m.ensures.0 c.refilled-m.ensures.1 c.enter.ensures i.long c.scored-run.ensures;
+      at = fill_parts l.at m c.refilled-m.ensures.0 c.refilled-m.ensures.1 c.enter.ensures i.long c.scored-tally.ensures;
       long = length-set c.loop-bounds.ms (c.args.j + c.swept-run.result.top / 256 % 16) c.refilled-m.result ∙ i.long;
     }
 
@@ -124,7 +124,7 @@ bounds-ms-j-else-n-gt1-2-2 c =
 -- where the postings above rank j are left, and the mentions there
 come : (c : Joined-n-gt1-2) → let a = c.args in let l = c.loop-past in let os = meant_of a.image.now a.q l.ms in
     (ns : List Mention)
-    × Come a.image.now os a.pre.now a.bar a.j a.q a.budget (run_by a.image.now os a.bar a.j a.q a.budget l.past l.count) l.past ns c.if-n-gt1-2.run.past c.if-n-gt1-2.run.tally c.if-n-gt1-2.run.top
+    × Come a.image.now os a.pre.now a.bar a.j a.q a.budget (run_by a.image.now os a.bar a.j a.q a.budget l.past l.count) l.past ns c.if-n-gt1-2.run.at.past c.if-n-gt1-2.run.at.tally c.if-n-gt1-2.run.top
     × Standing a.image.now c.if-n-gt1-2.ms ns a.j (a.q - a.j) c.if-n-gt1-2.spots c.if-n-gt1-2.room c.if-n-gt1-2.run.top
 come c =
     let i = c.loop-past.invariant in
@@ -166,7 +166,7 @@ sought-found-requires c =
 
 -- the mention at rank i, looked up: it is stored where the mentions are, and in the array
 at_found : (c : Joined-found-past) → let k = c.loop-i.i - 1 in
-    Found c.args.image.now c.if-n-gt1-2.run.past c.loop-i.invariant.ns k (set c.loop-i.invariant.ns k c.if-found-past.found) c.if-found-past.found
+    Found c.args.image.now c.if-n-gt1-2.run.at.past c.loop-i.invariant.ns k (set c.loop-i.invariant.ns k c.if-found-past.found) c.if-found-past.found
     × (c.if-found-past.ms ≡ set c.loop-i.ms k c.if-found-past.found)
 at_found c =
     let i = c.loop-i.invariant in
@@ -183,9 +183,9 @@ at_found c =
 
 -- and scored or not
 on_found : (c : Joined-found-past) {u : Tally} → let i = c.loop-i.invariant in let k = c.loop-i.i - 1 in let ns = set i.ns k c.if-found-past.found in
-    Scored c.args.image.now c.if-n-gt1-2.run.past c.if-found-past.found c.loop-i.t u →
-    Looking c.args.image.now (meant_of c.args.image.now c.args.q c.if-n-gt1-2.ms) c.args.pre.now c.args.bar c.args.j c.args.q c.if-n-gt1-2.run.past
-    (c.if-n-gt1-2.run.tally.count - sc.holders (drop c.args.j (meant_of c.args.image.now c.args.q c.if-n-gt1-2.ms)) (c.if-n-gt1-2.run.past - 1)) ns u k
+    Scored c.args.image.now c.if-n-gt1-2.run.at.past c.if-found-past.found c.loop-i.t u →
+    Looking c.args.image.now (meant_of c.args.image.now c.args.q c.if-n-gt1-2.ms) c.args.pre.now c.args.bar c.args.j c.args.q c.if-n-gt1-2.run.at.past
+    (c.if-n-gt1-2.run.at.tally.count - sc.holders (drop c.args.j (meant_of c.args.image.now c.args.q c.if-n-gt1-2.ms)) (c.if-n-gt1-2.run.at.past - 1)) ns u k
     × Standing c.args.image.now c.if-found-past.ms ns c.args.j (c.args.q - c.args.j) c.if-n-gt1-2.spots c.if-n-gt1-2.room c.if-n-gt1-2.run.top
 on_found c scored =
     let i = c.loop-i.invariant in
@@ -215,7 +215,7 @@ overflow_cast-next c = omega (arith, (come (goal.at.overflow_cast-next c).Joined
 
 -- the look-ups are done
 looked : (c : Left-loop-i) → let a = c.args in let os = meant_of a.image.now a.q c.if-n-gt1-2.ms in
-    Visited a.image.now os a.bar a.j a.q c.if-n-gt1-2.run.past (c.if-n-gt1-2.run.tally.count - sc.holders (drop a.j os) (c.if-n-gt1-2.run.past - 1)) c.loop-i.invariant.ns c.loop-i.t
+    Visited a.image.now os a.bar a.j a.q c.if-n-gt1-2.run.at.past (c.if-n-gt1-2.run.at.tally.count - sc.holders (drop a.j os) (c.if-n-gt1-2.run.at.past - 1)) c.loop-i.invariant.ns c.loop-i.t
 looked c =
     let l = c.loop-i.invariant.looking in
     elim c.loop-i-test.branch [
@@ -227,21 +227,21 @@ looked c =
 
 -- the document is visited to its end
 at_end : (c : Joined-n-gt1-2) {ns : List Mention} {t : Tally} → let a = c.args in let os = meant_of a.image.now a.q c.if-n-gt1-2.ms in
-    Visited a.image.now os a.bar a.j a.q c.if-n-gt1-2.run.past (c.if-n-gt1-2.run.tally.count - sc.holders (drop a.j os) (c.if-n-gt1-2.run.past - 1)) ns t →
-    Visited a.image.now (meant_of a.image.now a.q c.loop-past.ms) a.bar a.j a.q c.if-n-gt1-2.run.past (come c).1.midway.before ns t
+    Visited a.image.now os a.bar a.j a.q c.if-n-gt1-2.run.at.past (c.if-n-gt1-2.run.at.tally.count - sc.holders (drop a.j os) (c.if-n-gt1-2.run.at.past - 1)) ns t →
+    Visited a.image.now (meant_of a.image.now a.q c.loop-past.ms) a.bar a.j a.q c.if-n-gt1-2.run.at.past (come c).1.midway.before ns t
 at_end c v =
     let x = (come c).1 in
     visited_there x.midway x.next x.later (rw (come_same c) at v)
 
 -- and enters
 ends : (c : Joined-n-gt1-2) {ns ls : List Mention} {t : Tally} → let a = c.args in let os = meant_of a.image.now a.q c.if-n-gt1-2.ms in
-    Visited a.image.now os a.bar a.j a.q c.if-n-gt1-2.run.past (c.if-n-gt1-2.run.tally.count - sc.holders (drop a.j os) (c.if-n-gt1-2.run.past - 1)) ns t → a.bar < t.sum → ls ≡ ns →
+    Visited a.image.now os a.bar a.j a.q c.if-n-gt1-2.run.at.past (c.if-n-gt1-2.run.at.tally.count - sc.holders (drop a.j os) (c.if-n-gt1-2.run.at.past - 1)) ns t → a.bar < t.sum → ls ≡ ns →
     Ends a.image.now (meant_of a.image.now a.q a.ms) a.j (run_by a.image.now (meant_of a.image.now a.q a.ms) a.bar a.j a.q a.budget a.past a.count)
-    (record { ms = ls; count = t.count; end = Entered c.if-n-gt1-2.run.past t.sum (c.if-n-gt1-2.run.top / 4096) })
+    (record { ms = ls; count = t.count; end = Entered c.if-n-gt1-2.run.at.past t.sum (c.if-n-gt1-2.run.top / 4096) })
 ends c {ls = ls} {t} v enters is =
     let i = c.loop-past.invariant in
     let x = (come c).1 in
-    let r : Visit = record { ms = ls; count = t.count; end = Entered c.if-n-gt1-2.run.past t.sum (c.if-n-gt1-2.run.top / 4096) } in
+    let r : Visit = record { ms = ls; count = t.count; end = Entered c.if-n-gt1-2.run.at.past t.sum (c.if-n-gt1-2.run.top / 4096) } in
     standing_asked i.standing i.walking (λ (os : List sc.Mention) (run : Run). Ends c.args.image.now os c.args.j run r)
     (rw is (entered x.midway.visiting (at_end c v) x.midway.fits (next_is x.midway x.next x.later) enters))
 

@@ -14,7 +14,7 @@ use Rattle.walk.proofs.walk.Given as goal
 abbrev pub invariant-loop-bounds : goal.invariant-loop-bounds
 invariant-loop-bounds l = record {
   ns : List Mention;
-  at : PartsAt l.image (frame_of l.image l.initial.ms l.pre l.bar l.j l.q l.budget l.initial.run.past l.initial.run.tally.count ns) l.ms l.n l.spots l.room l.run.top l.bounds.slack l.bounds.limit l.run.past l.run.tally;
+  at : PartsAt l.image (frame_of l.image l.initial.ms l.pre l.bar l.j l.q l.budget l.initial.run.at.past l.initial.run.at.tally.count ns) l.ms l.n l.spots l.room l.run.top l.bounds.slack l.bounds.limit l.run.at.past l.run.at.tally;
   long : length l.ms ≡ 16;
 }
 

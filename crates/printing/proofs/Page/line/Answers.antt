@@ -1,5 +1,5 @@
 -- `printing::Page::line` meets its contract: each turn lays the next number, behind a space unless it is the first.
-use Rattle.std.proofs.Common.{ℕ, ◌+◌, ◌-◌, ◌*◌, ◌≤◌, List, take, take_all, length-take, arith}
+use Rattle.std.proofs.Common.{ℕ, ◌+◌, ◌*◌, ◌≤◌, List, take, take_all, length-take, arith}
 use Rattle.printing.specs.declared.Page.{Page}
 use Rattle.printing.specs.Text.{spaced, numbers_line}
 use Rattle.printing.specs.TextLaws.{spaced_none, spaced_first, spaced_more, spaced_length}
@@ -8,8 +8,8 @@ use Rattle.printing.specs.LaidLaws.{lays_none, lays_then}
 use Rattle.printing.proofs.Page.line.Goals as goal
 use Rattle.printing.proofs.Page.line.Goals.{then-i-gt0, else-i-gt0}
 
--- a number and the space behind it take at most 21 bytes
-near : (numbers : List ℕ) (i : ℕ) {p q : Page} → Lays (spaced (take i numbers)) p q → q.at ≤ p.at + (21 * i - 1)
+-- a number and what stands before it take at most 21 bytes
+near : (numbers : List ℕ) (i : ℕ) {p q : Page} → Lays (spaced (take i numbers)) p q → q.at ≤ p.at + 21 * i
 near numbers i l = omega (arith, l.wrote.next_is, spaced_length (take i numbers), length-take i numbers)
 
 pub loop-i-init : goal.loop-i-init

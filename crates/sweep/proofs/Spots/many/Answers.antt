@@ -9,8 +9,8 @@ overflow_cast-top c = omega (arith, (parts_next (c.loop-key.invariant.later _ _ 
 pub overflow_cast-here : goal.overflow_cast-here
 overflow_cast-here c = omega (arith, (parts_next (c.loop-key.invariant.later _ _ _ c.requires.3).at).fits)
 
-pub scored-t-requires : goal.scored-t-requires
-scored-t-requires c =
+pub scored-tally-requires : goal.scored-tally-requires
+scored-tally-requires c =
     let w = c.loop-key.invariant.later _ _ _ c.requires.3 in
     rw c.loop-key.invariant.place (parts_scores w.at (parts_here w.at (c.goes_on.ensures.0 c.if-goes_on.true) c.carried.ensures))
 
@@ -41,7 +41,7 @@ loop-key-preserved c =
     record {
       later = λ s f ms k.
           let w = i.later s f ms k in
-          later_on w i.place i.after (parts_here w.at (c.goes_on.ensures.0 c.if-goes_on.true) c.carried.ensures) c.loop-key-test.true c.enter-top.ensures c.scored-t.ensures;
+          later_on w i.place i.after (parts_here w.at (c.goes_on.ensures.0 c.if-goes_on.true) c.carried.ensures) c.loop-key-test.true c.enter-top.ensures c.scored-tally.ensures;
       place = refl;
       after = refl;
       weights = i.weights;

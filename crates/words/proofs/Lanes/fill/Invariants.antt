@@ -6,4 +6,4 @@ use Rattle.words.proofs.Lanes.fill.Given as goal
 abbrev pub invariant-loop-i : goal.invariant-loop-i
 invariant-loop-i l =
     let p = l.fn.self in
-    (l.at + 57 ≡ l.start + (l.i + 1) * (p.count * (p.width + 8))) × Halves l.part (p.width + 8) p.count l.start (l.start + 8 * l.far) l.i l.room
+    (l.at + 57 ≡ l.start + (l.i + 1) * (p.count * p.stride)) × Halves l.part p.stride p.count l.start (l.start + 8 * l.far) l.i l.room

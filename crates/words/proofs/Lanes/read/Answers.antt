@@ -1,5 +1,5 @@
 -- The two halves side by side, what is left of each, and what comes after them.
-use Rattle.std.proofs.Common.{rules, ◌+◌, ◌*◌, ◌/◌}
+use Rattle.std.proofs.Common.{rules, ◌*◌, ◌/◌}
 use Rattle.words.specs.Gathering.{shared, packed_far, packed_near, packed_both, packed_last, filled}
 use Rattle.words.proofs.Lanes.read.Goals as goal
 
@@ -11,15 +11,15 @@ fill_end-near-requires c = search (rules, shared, packed_near)
 
 pub fill_end-both-requires : goal.fill_end-both-requires
 fill_end-both-requires c =
-    let p = shared (8 * (c.args.n / 16)) c.args.self.count c.args.self.packs.some in
+    let p = shared (8 * (c.args.n / 16)) c.args.self.count c.requires.0.some in
     search (rules, packed_both)
 
 pub fill_rest-requires : goal.fill_rest-requires
 fill_rest-requires c =
-    let p = shared (8 * (c.args.n / 16)) c.args.self.count c.args.self.packs.some in
+    let p = shared (8 * (c.args.n / 16)) c.args.self.count c.requires.0.some in
     search (rules, packed_last)
 
 pub returns : goal.returns
 returns c =
     let a = c.args in
-    filled a.part.now (a.self.width + 8) a.self.count a.start a.n a.self.packs.some c.requires.2 c.fill.ensures c.fill_end-near.ensures c.fill_end-both.ensures c.fill_rest.ensures
+    filled a.part.now a.self.stride a.self.count a.start a.n c.requires.0.some c.requires.2 c.fill.ensures c.fill_end-near.ensures c.fill_end-both.ensures c.fill_rest.ensures

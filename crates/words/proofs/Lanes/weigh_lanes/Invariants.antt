@@ -3,4 +3,4 @@ use Rattle.words.specs.Gathering.{Weighed}
 use Rattle.words.proofs.Lanes.weigh_lanes.Given as goal
 
 abbrev pub invariant-loop-v : goal.invariant-loop-v
-invariant-loop-v l = Weighed l.fn.self.width l.fn.self.count l.fn.largest l.row l.v-index l.gaps l.bad l.hit
+invariant-loop-v l = Weighed l.width l.fn.self.count l.fn.largest l.row l.v-index l.gaps l.bad l.hit

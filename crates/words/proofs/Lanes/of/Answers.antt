@@ -1,7 +1,7 @@
 -- A lane more each turn.
 use Rattle.std.proofs.Common.{rules}
 use Rattle.words.specs.Lanes.{ones_fit, ones_more}
-use Rattle.words.proofs.ones_of.Goals as goal
+use Rattle.words.proofs.Lanes.of.Goals as goal
 
 pub overflow_add-ones : goal.overflow_add-ones
 overflow_add-ones c = search (rules, ones_fit)
