@@ -22,6 +22,10 @@ use Rattle.sweep.specs.Parts.{Parts, PartsAt}
 use Rattle.sweep.specs.PartLaws.{parts_next}
 use Rattle.walk.specs.Standing.{Standing, Come}
 
+-- not one mention is two or more
+above : {j q n : ℕ} → j < q → q ≡ j + n → (n ≡ 1 → ⊥) → 1 < n
+above lt size ne = omega (arith, ne)
+
 module _ {s : List ℕ} {ms ns : List Mention} {j n : ℕ} {z : Spots} {room : List ℕ} {top : ℕ} (k : Standing s ms ns j n z room top) where
   -- one mention or none, or two or more
   by_many : {C : Type 0} → (ns ≡ ms → C) → (Parts s ms ns j n z room top → C) → C
@@ -68,10 +72,11 @@ module _ {s : List ℕ} {ms ns : List Mention} {j n : ℕ} {z : Spots} {room : L
     some_above ne fits = some_mention (midway_first {from = past} w ne fits (omega arith))
 
     -- two mentions or more above rank j start at it
-    pub parts_start : {slack limit : ℕ} → 1 < n → q ≡ j + n → bar ≡ slack + get_or pre j 0 → budget ≡ limit + q → (past ≡ 4294967295 → ⊥) → count + q ≤ budget →
+    pub parts_start : {slack limit : ℕ} → (n ≡ 1 → ⊥) → q ≡ j + n → bar ≡ slack + get_or pre j 0 → budget ≡ limit + q → (past ≡ 4294967295 → ⊥) → count + q ≤ budget →
         PartsAt s (record { os = os; pre = pre; bar = bar; j = j; q = q; budget = budget; run = run; from = past; ms = ns }) ms n z room top slack limit past (record { sum = 0; count = count })
-    parts_start many size low spare ne fits =
-        record { size = size; spare = spare; low = low; parts = k.parts many; midway = midway_first {from = past} w ne fits (omega arith) }
+    parts_start more size low spare ne fits =
+        let m = midway_first {from = past} w ne fits (omega arith) in
+        record { size = size; spare = spare; low = low; parts = k.parts (above (some_mention m) size more); midway = m }
 
     -- and one
     pub alone_start : {slack limit : ℕ} → n ≤ 1 → q ≡ j + n → bar ≡ slack + get_or pre j 0 → budget ≡ limit + q → (past ≡ 4294967295 → ⊥) → count + q ≤ budget →
@@ -122,5 +127,7 @@ come_parts {f = f} {top = top} k later = record { midway = k.midway; i = f.j + t
 
 -- and stand there
 pub standing_parts : {s : List ℕ} {f : Frame} {ms : List Mention} {n : ℕ} {z : Spots} {room : List ℕ} {top slack limit past : ℕ} {t : Tally} →
-    PartsAt s f ms n z room top slack limit past t → 1 < n → length ms ≡ 16 → Standing s ms f.ms f.j n z room top
-standing_parts k many long = record { long = long; same = λ l. absurd (omega arith); parts = λ l. k.parts }
+    PartsAt s f ms n z room top slack limit past t → (n ≡ 1 → ⊥) → length ms ≡ 16 → Standing s ms f.ms f.j n z room top
+standing_parts k more long =
+    let many = above (some_mention k.midway) k.size more in
+    record { long = long; same = λ l. absurd (omega arith); parts = λ l. k.parts }

@@ -50,7 +50,7 @@ loop-bounds-init c =
     let i = c.loop-past.invariant in
     record {
       ns = i.ns;
-      at = parts_start i.standing (standing_own i.standing i.walking) c.if-n-gt1-2.true (omega arith) (omega arith) (omega arith) c.loop-past-test.true (omega arith);
+      at = parts_start i.standing (standing_own i.standing i.walking) (λ e. omega (arith, c.if-n-gt1-2.true)) (omega arith) (omega arith) (omega arith) c.loop-past-test.true (omega arith);
       long = i.standing.long;
     }
 
@@ -132,7 +132,7 @@ come c =
       | then-n-gt1-2+then-not-goes_on w ↦
           let l = w.swept-run.ensures.parts _ _ _ w.loop-bounds.invariant.at in
           rw (w.room-is, w.ms-is, w.spots-is, w.run-is)
-          (l.ns, come_parts l.at (w.goes_on.ensures.1 w.if-not-goes_on.true), standing_parts l.at w.if-n-gt1-2.true w.loop-bounds.invariant.long)
+          (l.ns, come_parts l.at (w.goes_on.ensures.1 w.if-not-goes_on.true), standing_parts l.at (λ e. omega (arith, w.if-n-gt1-2.true)) w.loop-bounds.invariant.long)
       | else-n-gt1-2 w ↦
           let few = w.if-n-gt1-2.false in
           let x = w.alone-w.ensures _ (alone_start i.standing (standing_own i.standing i.walking) few (omega arith) (omega arith) (omega arith) c.loop-past-test.true (omega arith)) in
