@@ -32,7 +32,7 @@ mention-requires c =
     let p = pair_at c.args.pairs.now c.in-Some.pair.now _ i w.within (sym w.rest ∙ s.0.1.0) (s.0.1.1 ∙ w.two) in
     let h : i < length c.args.pairs.now / 2 = omega (arith, p.within) in
     let f = c.requires.1 in
-    rw (p.term, p.weight) (c.requires.0, f.term i h, f.least i h, f.most i h)
+    (c.requires.0, omega (arith, p.term, f.term i h), omega (arith, p.weight, f.least i h), omega (arith, p.weight, f.most i h))
 
 pub loop-i-preserved : goal.loop-i-preserved
 loop-i-preserved c =

@@ -1,5 +1,5 @@
 -- `write` meets its contract: after i turns the first 3 + 2i numbers stand, and zeros fill the stretch.
-use Rattle.std.proofs.Common.{rules, arith, ◌≡◌, ◌+◌, ◌-◌, ◌*◌, ◌++◌, ◌≤◌, ℕ, List, length, take, replicate, length-set, ap}
+use Rattle.std.proofs.Common.{rules, [], ◌∷◌, ◌∙◌, arith, ◌≡◌, ◌+◌, ◌-◌, ◌*◌, ◌++◌, ◌≤◌, ℕ, List, length, take, replicate, length-set, ap}
 use Rattle.std.proofs.lemmas.Grind.{common_steps}
 use Rattle.ranking.specs.Rows.{rows_of}
 use Rattle.search.specs.WriteLaws.{three_of, three_first, written_none, written_more, written_all}
@@ -12,8 +12,9 @@ rest_put at out rest h = grind (arith, common_steps)
 pub loop-i-init : goal.loop-i-init
 loop-i-init c =
     let f = c.args.found.now in
-    let rows = rows_of f.table in
-    rw c.len-n.ensures.value (written_none (three_of f) _ rows (three_first c.args.out.now f.place (length rows) f.scored (omega arith)))
+    let n = c.len-n.result in
+    let counted = ap (λ (n : ℕ). f.place ∷ n ∷ f.scored ∷ []) c.len-n.ensures.value in
+    written_none (three_of f) _ (rows_of f.table) (three_first c.args.out.now f.place n f.scored (omega arith) ∙ counted)
 
 pub loop-i-preserved : goal.loop-i-preserved
 loop-i-preserved c =
