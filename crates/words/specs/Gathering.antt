@@ -1,7 +1,7 @@
 -- Words added up with a sum in each lane, and the whole of what weighing a row of words keeps.
 use Rattle.std.specs.Prelude.{ℕ, zero, suc, ◌+◌, ◌-◌, ◌*◌, ◌/◌, ◌%◌, ◌^◌, ◌≤◌, ◌<◌, ◌≡◌, refl, min, Bool, true, false, eqb, not, List, set, take, length}
-use Rattle.std.proofs.Common.{sym, ap, ◌∙◌, le_refl, div-mul-le_self, mul-le-mul_left, mod-lt, add-zero, length-set, get_or-set_other, pow-add, pow_pos, shr_lt}
-use Rattle.std.proofs.Math.Nat.{lt-div-mul-add, mul-le-mul_right, zero-div, zero-mod}
+use Rattle.std.proofs.Common.{sym, ap, ◌∙◌, le_refl, div-mul-le_self, mod-lt, add-zero, get_or-set_other, pow-add, pow_mono, pow_pos, shr_lt}
+use Rattle.std.proofs.Math.Nat.{mul-le-mul_right, zero-div, zero-mod}
 use Rattle.std.proofs.Math.Numerals.{add-one}
 use native.Mathlib.Omega.{arith}
 use Rattle.std.specs.Int.Bits.{bit_and, bit_or, and_le_r, and_zero_l}
@@ -11,8 +11,8 @@ use Rattle.std.proofs.lemmas.List.{get_or-take, length-take-le}
 use Rattle.std.proofs.Math.ListN.{get_or}
 use Rattle.std.proofs.Math.Pow.{split, high, low}
 use Rattle.meaning.specs.Bits.{bits_at}
-use Rattle.words.specs.Lanes.{Packed, packed_too, Word, ceiling_less, ceiling_bounds, word_sum, Bytewise, words_flat, words_zero, words_bytes, sum_lanes, ones_of, sum_words, words_more, sum_at, sum_append}
-use Rattle.words.specs.Masks.{spread, clear_both, both_clear}
+use Rattle.words.specs.Lanes.{Packed, packed_too, Word, ceiling_less, ceiling_bounds, word_sum, Bytewise, words_flat, words_zero, words_none, words_pair, words_bytes, sum_lanes, ones_of, lane_fits, sum_words, words_more, sum_at, sum_append, shared}
+use Rattle.words.specs.Masks.{spread, or_assoc, clear_both, both_clear}
 use Rattle.words.specs.Weighing.{gap_of, fault_of, reach_of, no_fault, no_reach, gaps_are}
 
 -- x is k lanes, none above c
@@ -92,51 +92,84 @@ pub record Weighs (w k L : ℕ) (row : List ℕ) (count gaps : ℕ) (all one : B
 
 -- what weighing the first i words of a row has shown, where L is the block's largest impact
 pub record Weighed (w k L : ℕ) (row : List ℕ) (i gaps bad hit : ℕ) : Type 0 where
-  pub small : gaps ≤ i * 144115188075855871
   gathered : Gathered (w + 8) k (2 ^ w - 1) i gaps (sum_words gap_of (w + 8) k row i)
-  fair : bit_and bad (256 * ones_of (w + 8) k) ≡ 0 → sum_words (fault_of L) (w + 8) k row i ≡ 0
-  reached : sum_words (reach_of L) (w + 8) k row i ≡ 0 → bit_and hit (256 * ones_of (w + 8) k) ≡ 0
+  pub fair : bit_and bad (256 * ones_of (w + 8) k) ≡ 0 → sum_words (fault_of L) (w + 8) k row i ≡ 0
+  pub reached : sum_words (reach_of L) (w + 8) k row i ≡ 0 → bit_and hit (256 * ones_of (w + 8) k) ≡ 0
+
+-- the same, and that the gaps of each word came to less than 2 ^ 57
+pub record Weighing (w k L : ℕ) (row : List ℕ) (i gaps bad hit : ℕ) : Type 0 where
+  pub small : gaps ≤ i * 144115188075855871
+  pub so_far : Weighed w k L row i gaps bad hit
 
 module _ (w k L : ℕ) (row : List ℕ) where
   abbrev ones : ℕ
   ones = ones_of (w + 8) k
 
+  -- no word yet
   pub weighed_none : Weighed w k L row 0 0 0 0
   unfolding sum_words
   weighed_none =
       let g = under_none (w + 8) (0 * (2 ^ w - 1)) k in
-      record { small = omega arith; gathered = record { whole = refl; under = g.0; sum = g.1 }; fair = λ e. refl; reached = λ e. and_zero_l (256 * ones) }
+      record { gathered = record { whole = refl; under = g.0; sum = g.1 }; fair = λ e. refl; reached = λ e. and_zero_l (256 * ones) }
+
+  pub weighing_none : Weighing w k L row 0 0 0 0
+  weighing_none = record { small = omega arith; so_far = weighed_none }
+
+  -- one word more, with the masks that o and g make
+  pub weighed_more :
+      (o g i gaps bad hit : ℕ) → o ≡ ones → g ≡ (2 ^ w - 1) * 256 * ones → 0 < w → L ≤ 255 → i < 128 → bad < 2 ^ 64 → hit < 2 ^ 64 → 511 * o < 2 ^ 64 →
+      Weighed w k L row i gaps bad hit →
+      let v = get_or row i 0 in
+      let m = bit_and v (255 * o) in
+      Weighed w k L row (i + 1) (gaps + bit_and v g) (bit_or (bit_or bad (m + (255 - L) * o)) (256 * o - m)) (bit_or hit (m + (256 - L) * o))
+  unfolding sum_words
+  weighed_more o g i gaps bad hit eo eg some byte few b h room x =
+      let v = get_or row i 0 in
+      let m = bit_and v (255 * ones) in
+      let guard = 256 * ones in
+      let most = and_le_r v (255 * ones) in
+      let high : (255 - L) * ones ≤ 255 * ones = mul-le-mul_right ones (omega arith) in
+      let top : (256 - L) * ones ≤ 256 * ones = mul-le-mul_right ones (omega arith) in
+      let p = m + (255 - L) * ones in
+      let q = guard - m in
+      let r = m + (256 - L) * ones in
+      let pl : p < 2 ^ 64 = omega arith in
+      let ql : q < 2 ^ 64 = omega arith in
+      let rl : r < 2 ^ 64 = omega arith in
+      rw (eo, eg, add-one i)
+      (record {
+        gathered = rw (add-one i) at (gather_more w k i gaps (sum_words gap_of (w + 8) k row i) v some few x.gathered);
+        fair = λ e.
+            let outer = clear_both (bit_or bad p) q guard (or_lt 64 bad p b pl) ql e in
+            let inner = clear_both bad p guard b pl outer.0 in
+            rw (x.fair inner.0, no_fault w k L v some byte inner.1 outer.1);
+        reached = λ e. both_clear hit r guard h rl (x.reached (omega arith)) (no_reach w k L v some byte (omega arith));
+      })
 
   -- one word more, by masks of which each is below 2 ^ 57
-  pub weighed_more :
+  pub weighing_more :
       (S i gaps bad hit gap impact guard above equal : ℕ) → S ≡ w + 8 → gap ≡ (1 * 2 ^ w % 2 ^ 64 - 1) * 256 * ones_of S k →
       impact ≡ 255 * ones_of S k → guard ≡ 256 * ones_of S k → above ≡ (255 - L) * ones_of S k → equal ≡ (256 - L) * ones_of S k →
       gap < 2 ^ 57 → impact < 2 ^ 57 → guard < 2 ^ 57 → above < 2 ^ 57 → equal < 2 ^ 57 →
-      0 < w → w ≤ 24 → L ≤ 255 → i < 128 → bad < 2 ^ 64 → hit < 2 ^ 64 → Weighed w k L row i gaps bad hit →
+      0 < w → w ≤ 24 → L ≤ 255 → i < 128 → bad < 2 ^ 64 → hit < 2 ^ 64 → Weighing w k L row i gaps bad hit →
       let m = bit_and (get_or row i 0) impact in
-      Weighed w k L row (i + 1) (gaps + bit_and (get_or row i 0) gap) (bit_or bad (bit_or (m + above) (guard - m))) (bit_or hit (m + equal))
-  unfolding sum_words
-  weighed_more S i gaps bad hit gap impact guard above equal es eg em ed ea ee lg lm ld la le some few byte less b h x =
+      Weighing w k L row (i + 1) (gaps + bit_and (get_or row i 0) gap) (bit_or bad (bit_or (m + above) (guard - m))) (bit_or hit (m + equal))
+  weighing_more S i gaps bad hit gap impact guard above equal es eg em ed ea ee lg lm ld la le some few byte less b h x =
       let v = get_or row i 0 in
-      let m = bit_and v impact in
-      let most = and_le_r v impact in
-      let least = and_le_r v gap in
+      let o = ones_of S k in
+      let eo : o ≡ ones = rw es in
       let shift : 1 * 2 ^ w % 2 ^ 64 ≡ 2 ^ w = one_shl w 64 (omega arith) in
       let g : gap ≡ (2 ^ w - 1) * 256 * ones = rw (shift, es) at eg in
-      let p : m + above < 2 ^ 64 = omega arith in
-      let q : guard - m < 2 ^ 64 = omega arith in
-      let r : m + equal < 2 ^ 64 = omega arith in
-      rw (add-one i)
-      (record {
-        small = omega arith;
-        gathered = rw (add-one i, ← g) at (gather_more w k i gaps (sum_words gap_of (w + 8) k row i) v some less x.gathered);
-        fair = λ e.
-            let all = clear_both bad (bit_or (m + above) (guard - m)) (256 * ones) b (or_lt 64 (m + above) (guard - m) p q) e in
-            let two = clear_both (m + above) (guard - m) (256 * ones) p q all.1 in
-            rw (x.fair all.0, no_fault w k L v some byte (rw (em, ea, es) at two.0) (rw (em, ed, es) at two.1));
-        reached = λ e.
-            both_clear hit (m + equal) (256 * ones) h r (x.reached (omega arith)) (rw (em, ee, es) (no_reach w k L v some byte (omega arith)));
-      })
+      let p = bit_and v impact + above in
+      let q = guard - bit_and v impact in
+      let least = and_le_r v gap in
+      let most = and_le_r v impact in
+      let y = weighed_more o gap i gaps bad hit eo g some byte less b h (omega arith) x.so_far in
+      record { small = omega arith; so_far = rw (← or_assoc bad p q, em, ed, ea, ee) y }
+
+  -- the gaps' lanes add up to all gaps
+  pub weighed_gaps : (i gaps bad hit : ℕ) → Weighed w k L row i gaps bad hit → sum_lanes (λ y. y) (w + 8) (gaps / 256) k ≡ sum_words gap_of (w + 8) k row i
+  weighed_gaps i gaps bad hit x = x.gathered.sum
 
 -- all of them
 pub weighed_all :
@@ -146,13 +179,36 @@ weighed_all x ei es ed e small =
     rw (← ei, ed, es)
     (record { sum = rw es at e ∙ x.gathered.sum; small = small; fair = λ z. x.fair (eqb-true _ 0 z); reached = λ z. rw (x.reached z) })
 
+-- the bounds of the masks that o makes, a 1 in each lane
+pub record Masks (w L o : ℕ) : Type 0 where
+  pub shift : 1 * 2 ^ w % 2 ^ 64 ≡ 2 ^ w
+  pub power : (0 < 2 ^ w) × (2 ^ w ≤ 16777216)
+  pub gap : (1 * 2 ^ w % 2 ^ 64 - 1) * 256 * o ≤ 144115188075855871
+  pub impact : 255 * o < 2 ^ 57
+  pub above : (255 - L) * o ≤ 255 * o
+  pub equal : (256 - L) * o ≤ 256 * o
+
+pub masks : (w k L o : ℕ) → o ≡ ones_of (w + 8) k → w ≤ 24 → k * (w + 8) ≤ 57 → Masks w L o
+masks w k L o e few most =
+    let wide = pow-add 2 w 8 in
+    let one = pow_pos w in
+    let shift : 1 * 2 ^ w % 2 ^ 64 ≡ 2 ^ w = one_shl w 64 (omega arith) in
+    rw e
+    (record {
+      shift = shift;
+      power = (one, pow_mono {i = w} {j = 24} few);
+      gap = rw shift (omega (arith, lane_fits ((2 ^ w - 1) * 256) (w + 8) k (omega arith) most));
+      impact = lane_fits 255 (w + 8) k (omega arith) most;
+      above = mul-le-mul_right (ones_of (w + 8) k) (omega arith);
+      equal = mul-le-mul_right (ones_of (w + 8) k) (omega arith);
+    })
+
 -- p words of k fields each from bit `start` on, and p words from bit `other` on, are the first of a row: sums over lanes are sums over fields
 pub record Halves (s : List ℕ) (S k start other p : ℕ) (row : List ℕ) : Type 0 where
   pub sums : (f : ℕ → ℕ) → sum_words f S k row (2 * p) ≡ sum_at f s S start (p * k) + sum_at f s S other (p * k)
 
 pub halves_none : (s : List ℕ) (S k start other : ℕ) (row : List ℕ) → Halves s S k start other 0 row
-unfolding sum_words sum_at
-halves_none s S k start other row = let e : 0 * k ≡ 0 = omega arith in record { sums = λ f. rw e }
+halves_none s S k start other row = record { sums = λ f. words_none f s S k start other row }
 
 -- a word more of either half, which were read up to the bit 57 past `at`
 pub halves_more :
@@ -161,18 +217,13 @@ pub halves_more :
     Halves s S k start (start + 8 * far) i row → Halves s S k start (start + 8 * far) (i + 1) (set (set row (2 * i) a) (2 * i + 1) b)
 halves_more s S k start far i row at a b most long e p q h =
     let other = start + 8 * far in
-    let m : (i + 1) * k ≡ i * k + k = omega arith in
-    let n : 2 * (i + 1) ≡ 2 * i + 1 + 1 = omega arith in
-    let here : 8 * (at / 8) + at % 8 + (57 - k * S) ≡ start + i * k * S = omega arith in
-    let there : 8 * (at / 8 + far) + at % 8 + (57 - k * S) ≡ other + i * k * S = omega arith in
-    let len : length (set row (2 * i) a) ≡ length row = length-set row (2 * i) a in
+    let here : 8 * (at / 8) + at % 8 + (57 - k * S) ≡ start + i * (k * S) = omega arith in
+    let there : 8 * (at / 8 + far) + at % 8 + (57 - k * S) ≡ other + i * (k * S) = omega arith in
     record {
       sums = λ f.
           let x = rw here at (word_sum f s S k (8 * (at / 8) + at % 8) a most p) in
           let y = rw there at (word_sum f s S k (8 * (at / 8 + far) + at % 8) b most q) in
-          rw (m, sum_append f s S start (i * k) k, sum_append f s S other (i * k) k, n)
-          (rw (words_more f S k (set row (2 * i) a) (2 * i + 1) b (omega arith), words_more f S k row (2 * i) a (omega arith), h.sums f)
-          (omega arith));
+          words_pair f s S k start other row i a b long x y (h.sums f);
     }
 
 -- the n fields from bit `at` on came as words of k each after the first i₀ words, with some stand-ins of 1
@@ -202,23 +253,27 @@ module _ (s : List ℕ) (S k at : ℕ) (row₀ : List ℕ) (i₀ : ℕ) where
         came = record { pad = k - r; sums = λ f. rw (words_more f S k row₀ i₀ x long, e.sums f) (omega arith) };
       }
 
-  -- word i, of as many fields as are left, and at most k
-  pub coming_more : (n i x : ℕ) (row : List ℕ) → 0 < k → i < n / k + min 1 (n % k) → i₀ + n ≤ length row → Word s S k (at + i * (k * S)) (min k (n - i * k)) x →
+  -- a word more of r fields
+  pub coming_more : (n m r : ℕ) (row : List ℕ) (i x : ℕ) → m ≡ n + r → i < length row →
+      ((f : ℕ → ℕ) → sum_lanes f S x k ≡ sum_at f s S (at + n * S) r + (k - r) * f 1) →
+      Coming s S k at row₀ i₀ n row i → Coming s S k at row₀ i₀ m (set row i x) (i + 1)
+  coming_more n m r row i x e h p a =
+      record {
+        pad = a.pad + (k - r);
+        sums = λ f. rw (e, words_more f S k row i x h, sum_append f s S at n r, a.sums f, p f) (omega arith);
+      }
+
+  -- word i of a fill by whole words, of as many fields as are left, and at most k
+  pub coming_word : (n i x : ℕ) (row : List ℕ) → 0 < k → i < n / k + min 1 (n % k) → i₀ + n ≤ length row → Word s S k (at + i * (k * S)) (min k (n - i * k)) x →
       Coming s S k at row₀ i₀ (min (i * k) n) row (i₀ + i) → Coming s S k at row₀ i₀ (min ((i + 1) * k) n) (set row (i₀ + i) x) (i₀ + (i + 1))
-  coming_more n i x row some less long e a =
-      let r = min k (n - i * k) in
+  coming_word n i x row some less long e a =
       let few = ceiling_bounds n k some in
       let left = ceiling_less n k i some less in
       let gone : min (i * k) n ≡ i * k = omega arith in
-      let next : min ((i + 1) * k) n ≡ i * k + r = omega arith in
       let last : i₀ + (i + 1) ≡ i₀ + i + 1 = omega arith in
       let here : at + i * (k * S) ≡ at + i * k * S = omega arith in
-      let b = rw gone at a in
-      rw (next, last)
-      (record {
-        pad = b.pad + (k - r);
-        sums = λ f. rw (words_more f S k row (i₀ + i) x (omega arith), sum_append f s S at (i * k) r, b.sums f, rw here at (e.sums f)) (omega arith);
-      })
+      let word = rw here at e in
+      rw last (coming_more (i * k) (min ((i + 1) * k) n) (min k (n - i * k)) row (i₀ + i) x (omega arith) (omega arith) word.sums (rw gone at a))
 
   pub coming_all : (n c : ℕ) (row : List ℕ) → 0 < k → c ≡ n / k + min 1 (n % k) → Coming s S k at row₀ i₀ (min (c * k) n) row (i₀ + c) → Added s S k at n row₀ i₀ row (i₀ + c)
   coming_all n c row some up a =
@@ -234,17 +289,12 @@ pub record Filled (s : List ℕ) (S k start n : ℕ) (row : List ℕ) (count : �
   pub pad : ℕ
   pub sums : (f : ℕ → ℕ) → sum_words f S k row count ≡ sum_at f s S start n + pad * f 1
 
--- h fields by words of k: no more words than fields
-pub shared : (h k : ℕ) → 0 < k → (h / k * k ≤ h) × (h / k ≤ h / k * k) × (h < h / k * k + k)
-shared h k some =
-    (div-mul-le_self h k, omega (arith, mul-le-mul_left (h / k) some), lt-div-mul-add some)
-
 -- two halves of h fields side by side, p words each with r fields left, and t fields after them
-sides :
+pub filled :
     (s : List ℕ) (S k start h p r t n : ℕ) (a b c d : List ℕ) (j l m : ℕ) → h ≡ p * k + r → n ≡ h + h + t → p ≤ p * k → n ≤ 128 →
     Halves s S k start (start + h * S) p a → Added s S k (start + p * k * S) r a (2 * p) b j → Added s S k (start + h * S + p * k * S) r b j c l →
     Added s S k (start + (h + h) * S) t c l d m → Filled s S k start n d m
-sides s S k start h p r t n a b c d j l m eh en less few e x y z =
+filled s S k start h p r t n a b c d j l m eh en less few e x y z =
     record {
       few = omega (arith, x.few, y.few, z.few);
       tight = omega (arith, x.tight, y.tight, z.tight);
@@ -289,17 +339,17 @@ module _ (s : List ℕ) (S k start n : ℕ) where
   pub packed_last : Packed s S k start n → Packed s S k (start + 16 * (n / 16 * S)) (n - 2 * half)
   packed_last p = packed_too (start + 16 * (n / 16 * S)) (n - 2 * half) p (omega (arith, bits, p.inside))
 
-  pub filled :
+  pub filled_halves :
       {a b c d : List ℕ} {j l m : ℕ} → 0 < k → n ≤ 128 → Halves s S k start (start + 8 * (n / 16 * S)) (half / k) a →
       Added s S k (start + whole * S) (half - whole) a (2 * (half / k)) b j →
       Added s S k (start + whole * S + 8 * (n / 16 * S)) (half - whole) b j c l → Added s S k (start + 16 * (n / 16 * S)) (n - 2 * half) c l d m →
       Filled s S k start n d m
-  filled some less e x y z =
+  filled_halves some less e x y z =
       let p = shared half k some in
       let there : start + 8 * (n / 16 * S) ≡ start + half * S = omega arith in
       let beyond : start + whole * S + 8 * (n / 16 * S) ≡ start + half * S + whole * S = omega arith in
       let after : start + 16 * (n / 16 * S) ≡ start + (half + half) * S = omega arith in
-      sides s S k start half (half / k) (half - whole) (n - 2 * half) n _ _ _ _ _ _ _ (omega arith) (omega arith) p.1 less (rw there at e) x (rw beyond at y) (rw after at z)
+      filled s S k start half (half / k) (half - whole) (n - 2 * half) n _ _ _ _ _ _ _ (omega arith) (omega arith) p.few less (rw there at e) x (rw beyond at y) (rw after at z)
 
 -- of a row's first n words, i stand once more after them, without their lowest byte
 pub record Lowered (row room : List ℕ) (n i : ℕ) : Type 0 where
@@ -343,17 +393,23 @@ weighs_first {w} {k} {L} {n} {gaps} {all} {one} {row} h x =
 
 -- with no gaps: the words as lanes of two bytes, taken twice
 pub weighs_gapless :
-    {w k L n gaps : ℕ} {all one : Bool} {row : List ℕ} (two : List ℕ) → w ≡ 0 → (w ≡ 0 → k ≡ 6) → 2 * n ≤ length two →
-    ((f : ℕ → ℕ) → Bytewise f → sum_words f 16 3 two (2 * n) ≡ sum_words f 8 6 row n) →
-    Weighs 8 3 L (take (2 * n) two) (length (take (2 * n) two)) gaps all one → Weighs w k L row n 0 all one
-weighs_gapless {w} {k} {L} {n} {gaps} {all} {one} {row} two ew six long same both =
-    let x = weighs_first long both in
+    (w k L : ℕ) (row two : List ℕ) (count gaps : ℕ) (all one : Bool) → w ≡ 0 → k ≡ 6 →
+    ((f : ℕ → ℕ) → Bytewise f → sum_words f 16 3 two (2 * count) ≡ sum_words f 8 6 row count) →
+    Weighs 8 3 L two (2 * count) gaps all one → Weighs w k L row count 0 all one
+weighs_gapless w k L row two count gaps all one ew ek same x =
     let fault : Bytewise (fault_of L) = λ y. let e : y % 256 % 256 ≡ y % 256 = omega arith in rw e in
     let reach : Bytewise (reach_of L) = λ y. let e : y % 256 % 256 ≡ y % 256 = omega arith in rw e in
-    rw (six ew, ew)
+    rw (ew, ek)
     (record {
-      sum = sym (words_flat 6 row n);
+      sum = sym (words_flat 6 row count);
       small = omega arith;
       fair = λ z. sym (same (fault_of L) fault) ∙ x.fair z;
       reached = λ z. x.reached (same (reach_of L) reach ∙ z);
     })
+
+-- where just those lanes were weighed by themselves
+pub weighs_gapless_first :
+    {w k L n gaps : ℕ} {all one : Bool} {row : List ℕ} (two : List ℕ) → w ≡ 0 → (w ≡ 0 → k ≡ 6) → 2 * n ≤ length two →
+    ((f : ℕ → ℕ) → Bytewise f → sum_words f 16 3 two (2 * n) ≡ sum_words f 8 6 row n) →
+    Weighs 8 3 L (take (2 * n) two) (length (take (2 * n) two)) gaps all one → Weighs w k L row n 0 all one
+weighs_gapless_first two ew six long same both = weighs_gapless _ _ _ _ two _ _ _ _ ew (six ew) same (weighs_first long both)

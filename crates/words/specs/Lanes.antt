@@ -1,6 +1,7 @@
 -- Several numbers side by side in one number: lanes of S bits, the lowest first. What a sum over lanes makes of a word of postings.
 use Rattle.std.specs.Prelude.{ℕ, zero, suc, ◌+◌, ◌-◌, ◌*◌, ◌/◌, ◌%◌, ◌^◌, ◌≤◌, ◌<◌, ◌≡◌, refl, min, List, get_or, set, length}
-use Rattle.std.proofs.Common.{sym, ap, ◌∙◌, suc-mul, mod-lt, div-add-mod', mul-le-mul_left, mul-le-mul_right, mod-eq_of_lt, div-mul-le_self, add_comm, le_refl, add-one, arith, get_or-set_same, get_or-set_other, pow-add, pow_pos, pow_mono, shr-shr, shr_lt}
+use Rattle.std.proofs.Common.{sym, ap, ◌∙◌, suc-mul, mod-lt, div-add-mod', mul-le-mul_left, mul-le-mul_right, mod-eq_of_lt, div-mul-le_self, add_comm, le_refl, add-one, arith, length-set, get_or-set_same, get_or-set_other, pow-add, pow_pos, pow_mono, shr-shr, shr_lt}
+use Rattle.std.proofs.Math.Nat.{lt-div-mul-add}
 use Rattle.std.proofs.lemmas.Nat.{one_shl}
 use Rattle.std.proofs.lemmas.Grind.{div_ceil_times}
 use Rattle.std.proofs.Math.Pow.{split, high, low, field, mod-mod-pow}
@@ -136,6 +137,27 @@ pub words_more : (f : ℕ → ℕ) (S k : ℕ) (row : List ℕ) (i x : ℕ) → 
 unfolding sum_words
 words_more f S k row i x h = rw (add-one i, words_kept f S k row i x i (omega arith), get_or-set_same row i x 0 h)
 
+-- no words yet of two rows of fields
+pub words_none : (f : ℕ → ℕ) (s : List ℕ) (S k start other : ℕ) (row : List ℕ) → sum_words f S k row (2 * 0) ≡ sum_at f s S start (0 * k) + sum_at f s S other (0 * k)
+unfolding sum_words sum_at
+words_none f s S k start other row = let e : 0 * k ≡ 0 = omega arith in rw e
+
+-- two words more of k fields each, in two rows of fields
+pub words_pair :
+    (f : ℕ → ℕ) (s : List ℕ) (S k start other : ℕ) (row : List ℕ) (i a b : ℕ) → 2 * i + 1 < length row →
+    sum_lanes f S a k ≡ sum_at f s S (start + i * (k * S)) k → sum_lanes f S b k ≡ sum_at f s S (other + i * (k * S)) k →
+    sum_words f S k row (2 * i) ≡ sum_at f s S start (i * k) + sum_at f s S other (i * k) →
+    sum_words f S k (set (set row (2 * i) a) (2 * i + 1) b) (2 * (i + 1)) ≡ sum_at f s S start ((i + 1) * k) + sum_at f s S other ((i + 1) * k)
+words_pair f s S k start other row i a b h p q e =
+    let n : 2 * (i + 1) ≡ 2 * i + 1 + 1 = omega arith in
+    let m : (i + 1) * k ≡ i * k + k = omega arith in
+    let here : start + i * k * S ≡ start + i * (k * S) = omega arith in
+    let there : other + i * k * S ≡ other + i * (k * S) = omega arith in
+    let len : length (set row (2 * i) a) ≡ length row = length-set row (2 * i) a in
+    rw (m, sum_append f s S start (i * k) k, sum_append f s S other (i * k) k, here, there, ← p, ← q, n)
+    (rw (words_more f S k (set row (2 * i) a) (2 * i + 1) b (omega arith), words_more f S k row (2 * i) a (omega arith), e)
+    (omega arith))
+
 -- so many postings with gaps of w bits are read at once: a word has 57 bits for them, wherever in a byte they begin
 pub record Packs (w k : ℕ) : Type 0 where
   pub width : w ≤ 24
@@ -241,6 +263,18 @@ module _ (S i k x : ℕ) (e : x ≡ ones_of S i) (some : 0 < S) (less : i < k) (
   unfolding ones_of
   ones_more = rw (e, add-one i) (omega (arith, next))
 
+-- of the number itself: nothing is shifted out, it is that of one lane more, and it is below 2 ^ 57
+pub record Longer (S i : ℕ) : Type 0 where
+  pub exact : ones_of S i * 2 ^ S % 2 ^ 64 ≡ ones_of S i * 2 ^ S
+  pub more : ones_of S i * 2 ^ S + 1 ≡ ones_of S (i + 1)
+  pub small : ones_of S (i + 1) < 2 ^ 57
+
+pub ones_longer : (S i k : ℕ) → 0 < S → i < k → k * S ≤ 57 → Longer S i
+unfolding ones_of
+ones_longer S i k some less fits =
+    let small = next S i k (ones_of S i) refl some less fits in
+    record { exact = mod-eq_of_lt (omega arith); more = rw (add-one i); small = rw (add-one i) (omega arith) }
+
 -- a lane of at most 32 bits, taken out by a shifted 1
 pub lane_low : (x S : ℕ) → S ≤ 32 → (x % (1 * 2 ^ S % 2 ^ 64) ≡ x % 2 ^ S) × (x % 2 ^ S < 4294967296)
 lane_low x S h =
@@ -255,6 +289,16 @@ lanes_turn f S x k i h = let e : k - i ≡ suc (k - (i + 1)) = omega arith in rw
 pub lanes_none : (f : ℕ → ℕ) (S x n : ℕ) → n ≡ 0 → sum_lanes f S x n ≡ 0
 unfolding sum_lanes
 lanes_none f S x n z = rw z
+
+-- h fields by words of k: p words, and what is left is less than a word
+pub record Shared (h k p : ℕ) : Type 0 where
+  pub whole : p * k ≤ h
+  pub rest : h < p * k + k
+  pub few : p ≤ p * k
+
+pub shared : (h k : ℕ) → 0 < k → Shared h k (h / k)
+shared h k some =
+    record { whole = div-mul-le_self h k; rest = lt-div-mul-add some; few = omega (arith, mul-le-mul_left (h / k) some) }
 
 -- f asks for the lowest byte alone
 abbrev pub Bytewise : (ℕ → ℕ) → Type 0

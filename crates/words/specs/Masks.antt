@@ -3,7 +3,7 @@ use Rattle.std.specs.Prelude.{ℕ, zero, suc, ◌+◌, ◌*◌, ◌/◌, ◌%◌
 use Rattle.std.proofs.Common.{sym, ap, ◌∙◌, mod-lt, pow-suc, arith, pow_pos}
 use Rattle.std.specs.Int.Bits.{bit_and, bit_or, and_step, or_step, and_zero_r, or_add_and}
 use Rattle.std.proofs.lemmas.Nat.{and_block, and_le_l, and_le_r}
-use Rattle.std.proofs.lemmas.Nat.Bits.{and_high}
+use Rattle.std.proofs.lemmas.Nat.Bits.{and_high, bit_at_or, same_from_bits}
 use Rattle.std.proofs.Math.Pow.{split, high, low}
 use Rattle.words.specs.Lanes.{sum_lanes, ones_of}
 
@@ -96,6 +96,11 @@ and_or (suc n) a b h p q =
     and_step x h
     ∙ rw (xh, xl, low, and_or n (a / 2) (b / 2) (h / 2) (omega (arith, pow-suc 2 n)) (omega (arith, pow-suc 2 n)))
     (sym (or_step u v ∙ rw (uh, ul, vh, vl)))
+
+-- three numbers put together in either order
+pub or_assoc : (a b c : ℕ) → bit_or (bit_or a b) c ≡ bit_or a (bit_or b c)
+or_assoc a b c =
+    same_from_bits _ _ (λ i. omega (arith, bit_at_or (bit_or a b) c i, bit_at_or a b i, bit_at_or a (bit_or b c) i, bit_at_or b c i))
 
 module _ (a b h : ℕ) (p : a < 2 ^ 64) (q : b < 2 ^ 64) where
   -- both are clear under the mask where they are clear together, and the other way round

@@ -192,7 +192,7 @@ impl Lanes {
     }
 
     // The words of a row; `largest` is the block's as its head has it. A gap's lowest bit is left to tell of the impact below.
-    #[tactic(auto, using(crate::specs::Lanes::lane_wide, crate::specs::Gathering::weighed_none, crate::specs::Gathering::weighed_more))]
+    #[tactic(auto, using(crate::specs::Lanes::lane_wide, crate::specs::Gathering::weighing_none))]
     fn weigh_lanes(self, row: &[u64], largest: u64) -> Weight
         requires { (8 < self.stride) × (Packs (self.stride - 8) self.count) × (largest ≤ 255) × (length row.now ≤ 128) }
         ensures { Weighs (self.stride - 8) self.count largest row.now (length row.now) result.gaps result.fair result.hit }
