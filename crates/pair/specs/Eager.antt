@@ -1,5 +1,5 @@
 -- Two mentions of which the places after the next posting are known before it is scored: X and Y are where they stand, x and y where they are to stand.
-use Rattle.std.specs.Prelude.{◌≡◌, refl, Bool, true, false, not, ◌⊎◌, List, ℕ, ◌+◌, ◌*◌, ◌/◌, ◌%◌, ◌≤◌, ◌<◌, min, eqb, ltb, get_or}
+use Rattle.std.specs.Prelude.{◌≡◌, refl, Bool, true, false, not, ◌⊎◌, List, ℕ, ◌+◌, ◌*◌, ◌/◌, ◌%◌, ◌≤◌, ◌<◌, min, eqb, ltb, length, get_or}
 use Rattle.std.proofs.Common.{sym, ap, ◌∙◌, true≢false, arith, eq-eqb, ne_eqb}
 use Rattle.lists.specs.Tests.{by_test}
 use Rattle.mentions.specs.declared.Mention.{Mention}
@@ -48,12 +48,12 @@ module _ {s : List ℕ} {f : Frame} {a b : Mention} {X Y : Spot} {room : List �
   eager_cast = pair_cast k.walk.at top eager_top
 
   -- the places are in the room
-  pub eager_room : (0 < x.place) × (x.place < 1056) × (0 < y.place) × (y.place < 1056)
+  pub eager_room : (0 < x.place) × (x.place < 1056) × (0 < y.place) × (y.place < 1056) × (length room ≡ 1056)
   eager_room =
       let n = passed_near k.one in
       let m = passed_near k.two in
       let at = k.walk.at in
-      (omega (arith, n, at.here.low), omega (arith, n, x_room at), omega (arith, m, at.there.low), omega (arith, m, y_room at))
+      (omega (arith, n, at.here.low), omega (arith, n, x_room at), omega (arith, m, at.there.low), omega (arith, m, y_room at), at.long)
 
   -- the lower key tells whose it is
   eager_one : eqb (top / 256 % 2) 0 ≡ ltb X.key Y.key

@@ -1,5 +1,5 @@
 -- Two mentions above rank j, each with the keys of its next postings in a part of the room: the lower key's is the next posting.
-use Rattle.std.specs.Prelude.{◌≡◌, Bool, true, false, ◌⊎◌, List, ℕ, ◌+◌, ◌-◌, ◌≤◌, ◌<◌, min, get_or, set}
+use Rattle.std.specs.Prelude.{◌≡◌, Bool, true, false, ◌⊎◌, List, ℕ, ◌+◌, ◌-◌, ◌≤◌, ◌<◌, min, length, get_or, set}
 use Rattle.mentions.specs.declared.Mention.{Mention}
 use Rattle.mentions.specs.declared.Tally.{Tally}
 use Rattle.mentions.specs.Mentions.{none}
@@ -25,6 +25,7 @@ pub record PairAt (s : List ℕ) (f : Frame) (a b : Mention) (x y : Spot) (room 
   pub two : f.q ≡ f.j + 2
   pub spare : f.budget ≡ limit + f.q
   pub low : f.bar ≡ slack + get_or f.pre f.j 0
+  pub long : length room ≡ 1056
   pub one : get_or f.ms f.j none ≡ seated s a (x.place - 1)
   pub other : get_or f.ms (f.j + 1) none ≡ seated s b (y.place - 67)
   pub here : Side s a.cursor 0 0 room x

@@ -143,6 +143,7 @@ module _ {s : List â„•} {f : Frame} {a b : Mention} {x y : Spot} {room : List â„
           two = k.two;
           spare = k.spare;
           low = k.low;
+          long = k.long;
           one = get_or-set_same f.ms f.j (seated s a (x'.place - 1)) none first_in;
           other = y_kept (seated s a (x'.place - 1));
           here = side_on k.here x' (goes.goes refl) some goes.next;
@@ -173,6 +174,7 @@ module _ {s : List â„•} {f : Frame} {a b : Mention} {x y : Spot} {room : List â„
           two = k.two;
           spare = k.spare;
           low = k.low;
+          long = k.long;
           one = x_kept (seated s b (y'.place - 67));
           other = get_or-set_same f.ms (f.j + 1) (seated s b (y'.place - 67)) none second_in;
           here = side_stays k.here x_stays rests.next;

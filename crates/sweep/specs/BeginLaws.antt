@@ -12,9 +12,22 @@ use Rattle.ahead.specs.Room.{Unpacked}
 use Rattle.ahead.specs.Side.{seated}
 use Rattle.ahead.specs.SideLaws.{side_first, side_room}
 use Rattle.sweep.specs.declared.Spots.{Spots}
-use Rattle.sweep.specs.KeyLaws.{keyed_more}
-use Rattle.sweep.specs.Parts.{PartsTo}
+use Rattle.sweep.specs.Keys.{Blank}
+use Rattle.sweep.specs.KeyLaws.{blank_keyed, keyed_more}
+use Rattle.sweep.specs.Parts.{Rows, PartsTo}
 use Rattle.sweep.specs.PartLaws.{by_place, apart}
+
+-- none of them yet
+pub blank_parts : {s : List ℕ} {ms : List Mention} {j n : ℕ} {z : Spots} {room : List ℕ} → Blank n z.contest → Rows z room → PartsTo 0 s ms ms j n z room 18446744073709551615
+blank_parts bl rows =
+    record {
+      keyed = blank_keyed bl;
+      rows = rows;
+      weighs = λ x h. absurd (omega arith);
+      sides = λ x h. absurd (omega arith);
+      seats = λ x h. absurd (omega arith);
+      others = λ x o. refl;
+    }
 
 -- a mention at the first place of its part is where the part starts
 first_seat : (s : List ℕ) (m : Mention) (y base : ℕ) → y ≡ base + 1 → m ≡ seated s m (y - (base + 1))
@@ -52,6 +65,7 @@ parts_more {s} {ms} {j} {n} {p} {z} {room} {room' = room'} k lt sound u entered 
         next_long = length-set z.next p v ∙ k.rows.next_long;
         places_long = length-set z.places p y ∙ k.rows.places_long;
         weights_long = length-set z.weights p m.weight ∙ k.rows.weights_long;
+        room_long = u.long ∙ k.rows.room_long;
       };
       weighs = λ x h. at_place (λ (w : ℕ). w ≡ (get_or ms (j + x) none).weight) z.weights p m.weight 0 x in_weights (λ e. rw e refl) (λ ne. k.weighs x (omega arith));
       sides = λ x h. by_place x p
@@ -63,3 +77,7 @@ parts_more {s} {ms} {j} {n} {p} {z} {room} {room' = room'} k lt sound u entered 
           (λ ne. rw (place_of x ne) (k.seats x (omega arith)));
       others = λ x o. refl;
     }
+
+-- all of them
+pub parts_all : {s : List ℕ} {ms ns : List Mention} {j n p : ℕ} {z : Spots} {room : List ℕ} {top : ℕ} → PartsTo p s ms ns j n z room top → p ≡ n → PartsTo n s ms ns j n z room top
+parts_all k e = rw e at k

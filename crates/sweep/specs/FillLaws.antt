@@ -59,7 +59,7 @@ module _ {s : List ℕ} {f : Frame} {ms : List Mention} {n : ℕ} {z : Spots} {r
             low = k.low;
             parts = parts_changed (get_or room' (top / 256 % 16 * 66) 0) (get_or room' (top / 256 % 16 * 66 + 1) 0) (top / 256 % 16 * 66 + 1) r r k.parts (parts_place k) entered
                 in_ns (get_or-set_same ms (f.j + top / 256 % 16) r none (omega (arith, in_ns, m.scoring.long)))
-                (λ x ne. get_or-set_other ms (f.j + top / 256 % 16) x r none ne) unpacked.others goes.weight filled (rw start refl);
+                (λ x ne. get_or-set_other ms (f.j + top / 256 % 16) x r none ne) unpacked.long unpacked.others goes.weight filled (rw start refl);
             midway = rw (parts_top k) at (win_turned (parts_side k) (parts_seat k) (key_next k m) (at_key k m) goes weight);
           }
 

@@ -10,7 +10,7 @@ use Rattle.mentions.specs.declared.Mention.{Mention}
 use Rattle.mentions.specs.Mentions.{none}
 use Rattle.visit.specs.Stand.{Next, SoundFrom}
 use Rattle.visit.specs.Key.{key_of, key_past, sound_most}
-use Rattle.sweep.specs.Keys.{KeyedTo, Keyed}
+use Rattle.sweep.specs.Keys.{Blank, KeyedTo, Keyed}
 
 -- the place of a key
 key_place : (c : Cursor) (p : ℕ) → p < 16 → key_of c p / 256 % 16 ≡ p
@@ -62,6 +62,15 @@ module _ {s : List ℕ} {ms : List Mention} {j q : ℕ} {c : Contest} {top : ℕ
       }
 
 -- the keys are entered one by one
+pub blank_keyed : {ms : List Mention} {j n : ℕ} {c : Contest} → Blank n c → KeyedTo 0 ms j n c 18446744073709551615
+blank_keyed bl =
+    record {
+      kept = bl.kept;
+      lowest = record { place = 0; within = omega (arith, bl.kept.long.0); is = bl.blank 0 (omega arith); low = λ x h. omega (arith, bl.blank x (omega (arith, bl.kept.few))) };
+      keys = λ x h. absurd (omega arith);
+      over = λ x g h. bl.blank x h;
+    }
+
 pub keyed_more : {ms : List Mention} {j n p : ℕ} {c c' : Contest} {top top' : ℕ} (key : ℕ) → KeyedTo p ms j n c top → p < n →
     key ≡ key_of (get_or ms (j + p) none).cursor p → Entered n p key c c' top' → KeyedTo (p + 1) ms j n c' top'
 keyed_more {ms} {j} {n} {p} {c} key k lt is e =

@@ -87,10 +87,10 @@ apart x p y ne g l = by_order x p (λ h. inl (omega arith)) (λ h. inr (omega (a
 pub parts_changed : {s : List ℕ} {ms ms' ns : List Mention} {j n p : ℕ} {z : Spots} {room : List ℕ} {c : Contest} {room' : List ℕ} {top top' : ℕ} (key v place : ℕ) (m r : Mention) →
     Parts s ms ns j n z room top → p < n → Entered n p key z.contest c top' → j + p < length ns →
     get_or ms' (j + p) none ≡ m → ((x : ℕ) → (x ≡ j + p → ⊥) → get_or ms' x none ≡ get_or ms x none) →
-    ((y : ℕ) → (y < p * 66) ⊎ (p * 66 + 65 ≤ y) → get_or room' y 0 ≡ get_or room y 0) →
+    length room' ≡ length room → ((y : ℕ) → (y < p * 66) ⊎ (p * 66 + 65 ≤ y) → get_or room' y 0 ≡ get_or room y 0) →
     m.weight ≡ (get_or ms (j + p) none).weight → Side s m.cursor p (p * 66) room' (record { place = place; key = key; next = v }) → r ≡ seated s m (place - (p * 66 + 1)) →
     Parts s ms' (set ns (j + p) r) j n (record z { contest = c; next = set z.next p v; places = set z.places p place }) room' top'
-parts_changed {s} {ms} {ms'} {ns} {j} {n} {p} {z} {room} {room' = room'} key v place m r k lt entered in_ns own base same weighs side seat =
+parts_changed {s} {ms} {ms'} {ns} {j} {n} {p} {z} {room} {room' = room'} key v place m r k lt entered in_ns own base long same weighs side seat =
     let own_ns : get_or (set ns (j + p) r) (j + p) none ≡ r = get_or-set_same ns (j + p) r none in_ns in
     let other : (x : ℕ) → (x ≡ p → ⊥) → get_or ms' (j + x) none ≡ get_or ms (j + x) none = λ x ne. base (j + x) (λ e. ne (omega arith)) in
     let other_ns : (x : ℕ) → (x ≡ p → ⊥) → get_or (set ns (j + p) r) (j + x) none ≡ get_or ns (j + x) none = λ x ne. get_or-set_other ns (j + p) (j + x) r none (λ e. ne (omega arith)) in
@@ -110,6 +110,7 @@ parts_changed {s} {ms} {ms'} {ns} {j} {n} {p} {z} {room} {room' = room'} key v p
         next_long = length-set z.next p v ∙ k.rows.next_long;
         places_long = length-set z.places p place ∙ k.rows.places_long;
         weights_long = k.rows.weights_long;
+        room_long = long ∙ k.rows.room_long;
       };
       weighs = λ x h. by_place x p (λ e. rw (e, own) (k.weighs p lt ∙ sym weighs)) (λ ne. rw (other x ne) (k.weighs x h));
       sides = λ x h. by_place x p
@@ -155,11 +156,16 @@ module _ {s : List ℕ} {f : Frame} {ms : List Mention} {n : ℕ} {z : Spots} {r
         spare = k.spare;
         low = k.low;
         parts = parts_changed (get_or z.next p 0) (get_or room place 0) place own (seated s own (place - (p * 66 + 1))) k.parts (parts_place k) entered
-            (in_mentions k.midway (parts_next k)) refl (λ x ne. refl) (λ y o. refl) refl on_side refl;
+            (in_mentions k.midway (parts_next k)) refl (λ x ne. refl) refl (λ y o. refl) refl on_side refl;
         midway = rw (parts_top k) at (win_on (parts_side k) (parts_seat k) (key_next k m) (at_key k m) on_spot (refl, refl) some worth);
       }
 
--- a walk later on, after one more posting, of the mention at place p, that has this key after its own
+-- a walk later on: at once
+pub later_first : {s : List ℕ} {f : Frame} {ms : List Mention} {n : ℕ} {z : Spots} {room : List ℕ} {top slack limit past : ℕ} {t : Tally} →
+    PartsAt s f ms n z room top slack limit past t → Later s f ms n z room top slack limit past t top
+later_first {f = f} k = record { ns = f.ms; at = k; up = omega arith }
+
+-- and after one more posting, of the mention at place p, that has this key after its own
 module _ {s : List ℕ} {f : Frame} {ms : List Mention} {n : ℕ} {z : Spots} {room : List ℕ} {top slack limit past : ℕ} {t : Tally} {old : ℕ}
     (l : Later s f ms n z room top slack limit past t old) {p key : ℕ} (is : p ≡ top / 256 % 16) (after : key ≡ get_or z.next p 0)
     {u : Tally} (m : Midway s f.os f.pre f.bar f.j f.q f.budget f.run f.from l.ns (top / 4096) u)

@@ -4,6 +4,7 @@ use Rattle.std.specs.Prelude.{ℕ, ◌+◌, ◌*◌, ◌-◌, ◌≤◌, ◌<◌
 use Rattle.mentions.specs.declared.Mention.{Mention}
 use Rattle.mentions.specs.declared.Tally.{Tally}
 use Rattle.mentions.specs.Mentions.{none}
+use Rattle.visit.specs.declared.At.{At}
 use Rattle.visit.specs.declared.Bounds.{Bounds}
 use Rattle.visit.specs.Postings.{Midway}
 use Rattle.ahead.specs.declared.Spot.{Spot}
@@ -14,11 +15,12 @@ use Rattle.sweep.specs.declared.Spots.{Spots}
 use Rattle.sweep.specs.declared.Run.{Run}
 use Rattle.sweep.specs.Keys.{KeyedTo}
 
--- the rows beside the keys: of each mention the key after its own, the place of that in the room, and its weight
-pub record Rows (z : Spots) : Type 0 where
+-- the rows beside the keys: of each mention the key after its own, the place of that in the room, and its weight; and the room
+pub record Rows (z : Spots) (room : List ℕ) : Type 0 where
   pub next_long : length z.next ≡ 16
   pub places_long : length z.places ≡ 16
   pub weights_long : length z.weights ≡ 16
+  pub room_long : length room ≡ 1056
 
 -- where mention x is in its part of the room
 abbrev pub spot_of : Spots → ℕ → Spot
@@ -27,7 +29,7 @@ spot_of z x = record { place = get_or z.places x 0; key = get_or z.contest.keys 
 -- of the n mentions from rank j on the first m are in their parts of the room: ms has them where the parts start, ns where they are
 pub record PartsTo (m : ℕ) (s : List ℕ) (ms ns : List Mention) (j n : ℕ) (z : Spots) (room : List ℕ) (top : ℕ) : Type 0 where
   pub keyed : KeyedTo m ns j n z.contest top
-  pub rows : Rows z
+  pub rows : Rows z room
   pub weighs : (x : ℕ) → x < m → get_or z.weights x 0 ≡ (get_or ms (j + x) none).weight
   pub sides : (x : ℕ) → x < m → Side s (get_or ms (j + x) none).cursor x (x * 66) room (spot_of z x)
   pub seats : (x : ℕ) → x < m → get_or ns (j + x) none ≡ seated s (get_or ms (j + x) none) (get_or z.places x 0 - (x * 66 + 1))
@@ -59,3 +61,14 @@ abbrev pub EachParts : ℕ → Spots → List ℕ → Run → Bounds → Spots �
 EachParts n z room r b z' r' =
     (s : List ℕ) (f : Frame) (ms : List Mention) → PartsAt s f ms n z room r.top b.slack b.limit r.at.past r.at.tally →
     Later s f ms n z' room r'.top b.slack b.limit r'.at.past r'.at.tally r.top
+
+-- spots with these rows above their keys
+abbrev pub with_above : Spots → List ℕ → List ℕ → List ℕ → Spots
+with_above z b c d = record z { contest = record { keys = z.contest.keys; pairs = b; fours = c; eights = d } }
+
+-- the same of two mentions, whatever stands in the rows above their keys
+abbrev pub SomeTwo : Spots → List ℕ → At → Bounds → Type 0
+SomeTwo z room at bounds = (b : List ℕ) × (c : List ℕ) × (d : List ℕ) × (top : ℕ) × SomeParts 2 (with_above z b c d) room (record { top = top; at = at }) bounds
+
+abbrev pub EachTwo : Spots → List ℕ → At → Bounds → Spots → Run → Type 0
+EachTwo z room at bounds z' r' = (b c d : List ℕ) (top : ℕ) → EachParts 2 (with_above z b c d) room (record { top = top; at = at }) bounds (with_above z' b c d) r'

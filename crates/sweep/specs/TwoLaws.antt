@@ -55,6 +55,7 @@ module _ {s : List ℕ} {f : Frame} {ms : List Mention} {z : Spots} {room : List
         two = k.size;
         spare = k.spare;
         low = k.low;
+        long = k.parts.rows.room_long;
         one = rw here at (k.parts.seats 0 (omega arith));
         other = k.parts.seats 1 (omega arith);
         here = rw here at (k.parts.sides 0 (omega arith));
@@ -124,6 +125,7 @@ module _ {s : List ℕ} {f : Frame} {ms : List Mention} {z : Spots} {room : List
             next_long = two_long z.next x.next y.next ∙ rows.next_long;
             places_long = two_long z.places x.place y.place ∙ rows.places_long;
             weights_long = rows.weights_long;
+            room_long = rows.room_long;
           };
           weighs = p.weighs;
           sides = of_two (λ (v : ℕ). Side s (get_or ms (f.j + v) none).cursor v (v * 66) room (spot_of back v))

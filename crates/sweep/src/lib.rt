@@ -2,10 +2,10 @@
 // how far on each is. "A document is visited if a mention above rank j holds it. All such postings are scored."
 #![tactic(auto)]
 
-ghost use Rattle.std.specs.Prelude.{ℕ, ◌≡◌, ◌+◌, ◌≤◌, ◌<◌};
+ghost use Rattle.std.specs.Prelude.{ℕ, ◌≡◌, ◌+◌, ◌≤◌, ◌<◌, replicate};
 ghost use Rattle.visit.specs.Stand.{SoundFrom};
 ghost use Rattle.sweep.specs.Keys.{Blank};
-ghost use Rattle.sweep.specs.Parts.{spot_of, Parts, SomeParts, EachParts};
+ghost use Rattle.sweep.specs.Parts.{spot_of, Parts, SomeParts, EachParts, SomeTwo, EachTwo};
 
 use ahead::{PART, ROOM, Spot};
 use contest::Contest;
@@ -38,7 +38,8 @@ pub struct Run {
 impl Spots {
     // No mention's: no key in them.
     pub fn blank() -> Spots
-        ensures { (n : ℕ) → n ≤ 16 → Blank n result.contest }
+        ensures contest { (n : ℕ) → n ≤ 16 → Blank n result.contest }
+        ensures rows { (result.next ≡ replicate 16 0) × (result.places ≡ replicate 16 0) × (result.weights ≡ replicate 16 0) }
     {
         Spots {
             contest: Contest::filled(NONE),
@@ -87,8 +88,9 @@ impl Spots {
 
     // Two mentions, as `many`.
     fn two(&mut self, room: &[u64; ROOM], run: Run, bounds: Bounds) -> Run
-        requires { SomeParts 2 self.old room.now run bounds }
-        ensures parts { EachParts 2 self.old room.now run bounds self.new result }
+        requires { SomeTwo self.old room.now run.at bounds }
+        ensures parts { EachTwo self.old room.now run.at bounds self.new result }
+        ensures above { (self.new.contest.pairs ≡ self.old.contest.pairs) × (self.new.contest.fours ≡ self.old.contest.fours) × (self.new.contest.eights ≡ self.old.contest.eights) }
         ensures weights { self.new.weights ≡ self.old.weights }
     {
         let r = pair::both(

@@ -11,6 +11,9 @@ use Rattle.sweep.specs.declared.Spots.{Spots}
 use Rattle.sweep.specs.Parts.{Parts}
 use Rattle.walk.specs.Standing.{Settled}
 
+pub settled_first : {j : ℕ} {ms₀ ns : List Mention} → Settled j 0 ms₀ ns ms₀
+settled_first = record { long = refl; done = λ x h. absurd (omega arith); rest = λ x o. refl }
+
 module _ {s : List ℕ} {ms₀ ns ms : List Mention} {j n p : ℕ} {z : Spots} {room : List ℕ} {top : ℕ} (k : Parts s ms₀ ns j n z room top) (x : Settled j p ms₀ ns ms) where
   module _ (lt : p < n) where
     own : get_or ms (j + p) none ≡ get_or ms₀ (j + p) none

@@ -16,6 +16,7 @@ use Rattle.sweep.specs.Parts.{Parts}
 -- the array ms, and where its mentions are, with spots and a room for n of them from rank j on
 pub record Standing (s : List ℕ) (ms ns : List Mention) (j n : ℕ) (z : Spots) (room : List ℕ) (top : ℕ) : Type 0 where
   pub long : length ms ≡ 16
+  pub wide : length room ≡ 1056
   pub same : n ≤ 1 → ns ≡ ms
   pub parts : 1 < n → Parts s ms ns j n z room top
 

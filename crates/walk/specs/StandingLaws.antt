@@ -110,7 +110,7 @@ module _ {s : List ℕ} {ms ns : List Mention} {j n : ℕ} {z : Spots} {room : L
         }
 
     pub standing_looked : Standing s (set ms i m) (set ns i m) j n z room top
-    standing_looked = record { long = length-set ms i m ∙ k.long; same = λ l. rw (k.same l) refl; parts = λ l. looked_parts (k.parts l) }
+    standing_looked = record { long = length-set ms i m ∙ k.long; wide = k.wide; same = λ l. rw (k.same l) refl; parts = λ l. looked_parts (k.parts l) }
 
 -- the one mention has gone on alone
 pub come_alone : {s : List ℕ} {f : Frame} {slack limit : ℕ} {m : Mention} {past : ℕ} {t : Tally} {top : ℕ} → AloneTo s f slack limit m past t → top ≡ key_of m.cursor 0 →
@@ -130,4 +130,4 @@ pub standing_parts : {s : List ℕ} {f : Frame} {ms : List Mention} {n : ℕ} {z
     PartsAt s f ms n z room top slack limit past t → (n ≡ 1 → ⊥) → length ms ≡ 16 → Standing s ms f.ms f.j n z room top
 standing_parts k more long =
     let many = above (some_mention k.midway) k.size more in
-    record { long = long; same = λ l. absurd (omega arith); parts = λ l. k.parts }
+    record { long = long; wide = k.parts.rows.room_long; same = λ l. absurd (omega arith); parts = λ l. k.parts }

@@ -26,7 +26,7 @@ pub begin-top-requires : goal.begin-top-requires
 begin-top-requires c =
     let p = c.requires.0 in
     let whole : length (meant_of c.args.image.now c.args.q c.args.ms) ≡ c.args.q = simp (length-map, length-take) (omega (arith, p.few)) in
-    (c.blank-spots.ensures _ (omega (arith, p.few)), omega (arith, p.few, p.rank), λ x h. (p.placed.here (c.args.j + x) (omega arith) (omega arith)).sound)
+    (c.blank-spots.ensures.contest _ (omega (arith, p.few)), omega (arith, p.few, p.rank), λ x h. (p.placed.here (c.args.j + x) (omega arith) (omega arith)).sound)
 
 pub overflow_add-from : goal.overflow_add-from
 overflow_add-from c =
@@ -137,7 +137,7 @@ come c =
           let few = w.if-n-gt1-2.false in
           let x = w.alone-w.ensures _ (alone_start i.standing (standing_own i.standing i.walking) few (omega arith) (omega arith) (omega arith) c.loop-past-test.true (omega arith)) in
           rw (w.room-is, w.ms-is, w.spots-is, w.run-is)
-          (_, come_alone x w.key.ensures, record { long = length-set c.loop-past.ms c.args.j w.alone-w.result.mention ∙ i.standing.long; same = λ l. refl; parts = λ l. absurd (omega arith) })
+          (_, come_alone x w.key.ensures, record { long = length-set c.loop-past.ms c.args.j w.alone-w.result.mention ∙ i.standing.long; wide = i.standing.wide; same = λ l. refl; parts = λ l. absurd (omega arith) })
     ]
 
 -- the array there means the mentions that are there
