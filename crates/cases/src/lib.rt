@@ -12,17 +12,18 @@ pub const A_AND_B: [u8; 42] = *b"\x10\x02\x00\x00\x14\x00\x00\x2a\
     \x00\x00\x01\x0a\x00\x00\x02\x09\
     \x04\x20\x40\x00\x00\x9c\x11\x02\xc1\x00\x8c\x24\x00\x00\x32\x84\xe0\x90";
 
-// A case whose row is lent by the program.
+// A case whose row is lent by the program; its name, any bytes, is written first.
 pub fn call(
     rt: &impl Print,
-    name: &str,
+    name: &[u8],
     image: &[u8],
     sheet: &[u32],
     row: &mut [u32],
 ) -> io::Result<()> {
+    rt.write_all(name)?;
     match finder::answer(image, sheet, row) {
-        Outcome::Done(count) => print!(rt; "{name}: done {count}:")?,
-        Outcome::Refused(number, place) => print!(rt; "{name}: refused {number} {place}:")?,
+        Outcome::Done(count) => print!(rt; ": done {count}:")?,
+        Outcome::Refused(number, place) => print!(rt; ": refused {number} {place}:")?,
     }
     for n in row.iter() {
         print!(rt; " {n}")?;
@@ -31,7 +32,7 @@ pub fn call(
 }
 
 // A case with a row of eight numbers, each 99 before the call: more than one query of k = 1 or k = 2 fills.
-pub fn case(rt: &impl Print, name: &str, image: &[u8], sheet: &[u32]) -> io::Result<()> {
+pub fn case(rt: &impl Print, name: &[u8], image: &[u8], sheet: &[u32]) -> io::Result<()> {
     let mut row = [99u32; 8];
     call(rt, name, image, sheet, &mut row)
 }

@@ -41,22 +41,22 @@ const THREE: [u8; 60] = *b"\x10\x03\x00\x00\x0a\x00\x00\x3c\
 // One document, and none.
 fn meetings(rt: &impl Print) -> io::Result<()> {
     // 5 alone: 2 + 9, at cost 2
-    case(rt, "P11", &cases::A_AND_B, &[1, 2, 1, 100, 2, 0, 1, 1, 1])?;
+    case(rt, b"P11", &cases::A_AND_B, &[1, 2, 1, 100, 2, 0, 1, 1, 1])?;
     // no document matches
-    case(rt, "never", &APART, &[1, 2, 1, 100, 2, 0, 1, 1, 1])?;
+    case(rt, b"never", &APART, &[1, 2, 1, 100, 2, 0, 1, 1, 1])?;
     // none is visited, so nothing stops the query
-    case(rt, "never, budget 0", &APART, &[1, 2, 1, 0, 2, 0, 1, 1, 1])?;
+    case(rt, b"never, budget 0", &APART, &[1, 2, 1, 0, 2, 0, 1, 1, 1])?;
     // terms 0 and 1 meet at 2, 4 and 8, term 2 holds 8 only: 1 * 2 + 2 * 3 + 3 * 4, at cost 3
     case(
         rt,
-        "three lists",
+        b"three lists",
         &THREE,
         &[1, 2, 1, 3, 3, 0, 1, 1, 2, 2, 3],
     )?;
     // before 8: 0 + 3 is above 2
     case(
         rt,
-        "three lists, budget 2",
+        b"three lists, budget 2",
         &THREE,
         &[1, 2, 1, 2, 3, 0, 1, 1, 2, 2, 3],
     )
@@ -64,23 +64,23 @@ fn meetings(rt: &impl Print) -> io::Result<()> {
 
 // The lists meet at 33, in the last block of each: 2 * 5 + 3 * 7.
 fn last_blocks(rt: &impl Print) -> io::Result<()> {
-    case(rt, "last blocks", &LAST, &[1, 2, 1, 100, 2, 0, 2, 1, 3])?;
+    case(rt, b"last blocks", &LAST, &[1, 2, 1, 100, 2, 0, 2, 1, 3])?;
     case(
         rt,
-        "last blocks, the other first",
+        b"last blocks, the other first",
         &LAST,
         &[1, 2, 1, 100, 2, 1, 3, 0, 2],
     )?;
     // before 33: 0 + 2 is not above 2, but above 1
     case(
         rt,
-        "last blocks, budget 2",
+        b"last blocks, budget 2",
         &LAST,
         &[1, 2, 1, 2, 2, 0, 2, 1, 3],
     )?;
     case(
         rt,
-        "last blocks, budget 1",
+        b"last blocks, budget 1",
         &LAST,
         &[1, 2, 1, 1, 2, 0, 2, 1, 3],
     )
@@ -89,7 +89,7 @@ fn last_blocks(rt: &impl Print) -> io::Result<()> {
 // Terms 0 and 1 with these weights: 9 has 4 and 3, 21 has 2 and 6.
 fn twice(
     rt: &impl Print,
-    name: &str,
+    name: &[u8],
     k: u32,
     budget: u32,
     first: u32,
@@ -101,62 +101,62 @@ fn twice(
 // Weights 1, 1: 9 with 7, 21 with 8.
 fn budgets(rt: &impl Print) -> io::Result<()> {
     // before 21: 2 + 2 = 4 is not above 4, but above 3
-    twice(rt, "twice, budget 4", 1, 4, 1, 1)?;
-    twice(rt, "twice, budget 3", 1, 3, 1, 1)?;
+    twice(rt, b"twice, budget 4", 1, 4, 1, 1)?;
+    twice(rt, b"twice, budget 3", 1, 3, 1, 1)?;
     // before 9: 0 + 2 is not above 2, but above 1
-    twice(rt, "twice, budget 2", 1, 2, 1, 1)?;
-    twice(rt, "twice, budget 1", 1, 1, 1, 1)
+    twice(rt, b"twice, budget 2", 1, 2, 1, 1)?;
+    twice(rt, b"twice, budget 1", 1, 1, 1, 1)
 }
 
 // "higher score, then lower document number".
 fn ties(rt: &impl Print) -> io::Result<()> {
     // 12 + 6 and 6 + 12
-    twice(rt, "18 and 18", 1, 100, 3, 2)?;
-    twice(rt, "18 and 18, k = 2", 2, 100, 3, 2)?;
+    twice(rt, b"18 and 18", 1, 100, 3, 2)?;
+    twice(rt, b"18 and 18, k = 2", 2, 100, 3, 2)?;
     // 8 + 3 and 4 + 6
-    twice(rt, "11 and 10", 1, 100, 2, 1)?;
+    twice(rt, b"11 and 10", 1, 100, 2, 1)?;
     // 4 + 3 and 2 + 6
-    twice(rt, "7 and 8, k = 2", 2, 100, 1, 1)
+    twice(rt, b"7 and 8, k = 2", 2, 100, 1, 1)
 }
 
 // "A term may be repeated; each mention counts with its own weight and its own postings".
 fn repeated(rt: &impl Print) -> io::Result<()> {
     // every document of term 0, at cost 2 each, with 2 + 3 times its impact: 3 with 25, 9 with 20, 10 with 10, 20 with 5, 21 with 10
-    case(rt, "a term twice", &TWICE, &[1, 2, 2, 100, 2, 0, 2, 0, 3])?;
+    case(rt, b"a term twice", &TWICE, &[1, 2, 2, 100, 2, 0, 2, 0, 3])?;
     // 9: 4 * 2 + 3 * 1 + 4 * 3 = 23; 21: 2 * 2 + 6 * 1 + 2 * 3 = 16; at cost 3 each
     case(
         rt,
-        "a term twice, and another",
+        b"a term twice, and another",
         &TWICE,
         &[1, 2, 2, 6, 3, 0, 2, 1, 1, 0, 3],
     )?;
     // before 21: 3 + 3 = 6 is above 5
     case(
         rt,
-        "the same, budget 5",
+        b"the same, budget 5",
         &TWICE,
         &[1, 2, 2, 5, 3, 0, 2, 1, 1, 0, 3],
     )?;
     // one mention: every document of term 1 at cost 1
-    case(rt, "one term", &TWICE, &[1, 2, 1, 100, 1, 1, 1])
+    case(rt, b"one term", &TWICE, &[1, 2, 1, 100, 1, 1, 1])
 }
 
 // No document is in an empty list, so none is visited.
 fn empty(rt: &impl Print) -> io::Result<()> {
-    case(rt, "an empty list", &TWICE, &[1, 2, 1, 100, 2, 0, 1, 2, 1])?;
+    case(rt, b"an empty list", &TWICE, &[1, 2, 1, 100, 2, 0, 1, 2, 1])?;
     case(
         rt,
-        "an empty list first",
+        b"an empty list first",
         &TWICE,
         &[1, 2, 1, 100, 3, 2, 5, 0, 1, 1, 1],
     )?;
     case(
         rt,
-        "an empty list, budget 0",
+        b"an empty list, budget 0",
         &TWICE,
         &[1, 2, 1, 0, 2, 0, 1, 2, 1],
     )?;
-    case(rt, "an empty list alone", &TWICE, &[1, 2, 1, 100, 1, 2, 1])
+    case(rt, b"an empty list alone", &TWICE, &[1, 2, 1, 100, 1, 2, 1])
 }
 
 fn main(rt: HostRuntime) -> io::Result<()> {

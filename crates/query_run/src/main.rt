@@ -41,18 +41,18 @@ const THREE: [u8; 88] = *b"\x10\x03\x00\x00\x0c\x00\x00\x58\
 fn paper(rt: &impl Print) -> io::Result<()> {
     // ceilings 4 and 9. At 3: bar 0, A's 4 scored. At 5: bar 4 and P(1) = 4, A is aside; B's 9, 9 + 4 > 4, so A is looked up: 11, 2 scored.
     // At 9: bar 11, B alone is above, so not visited. At 12: 9 + 4 = 13 > 11, A is looked up and lacks it. 1 + 2 + 0 + 1
-    case(rt, "P9", &cases::A_AND_B, &[1, 1, 1, 100, 2, 0, 1, 1, 1])?;
+    case(rt, b"P9", &cases::A_AND_B, &[1, 1, 1, 100, 2, 0, 1, 1, 1])?;
     // 1 at 3, 2 at 5, 1 at 9, 1 at 12
-    case(rt, "P10", &cases::A_AND_B, &[1, 0, 1, 100, 2, 0, 1, 1, 1])?;
+    case(rt, b"P10", &cases::A_AND_B, &[1, 0, 1, 100, 2, 0, 1, 1, 1])?;
     // the bar is 7 after document 4, the one ceiling is 7: nothing more is visited, so nothing stops the query
-    case(rt, "P12, mode 1", &SAME, &[1, 1, 1, 1, 1, 0, 1])?;
+    case(rt, b"P12, mode 1", &SAME, &[1, 1, 1, 1, 1, 0, 1])?;
     // before 6: 1 + 1 > 1
-    case(rt, "P12, mode 0", &SAME, &[1, 0, 1, 1, 1, 0, 1])
+    case(rt, b"P12, mode 0", &SAME, &[1, 0, 1, 1, 1, 0, 1])
 }
 
 // Term 0 with weight 2, terms 1 and 2 with weight 1: ceilings 10, 2, 3, so that term 1 has rank 1, term 2 rank 2, term 0 rank 3, and P is 0, 2, 5, 15.
 // The scores: 1 with 6, 2 with 1, 3 with 4 + 2, 4 with 2 + 2 + 1, 5 with 4 + 3, 6 with 2, 9 with 10 + 2 + 3, 10 with 1.
-fn three(rt: &impl Print, name: &str, mode: u32, k: u32, budget: u32) -> io::Result<()> {
+fn three(rt: &impl Print, name: &[u8], mode: u32, k: u32, budget: u32) -> io::Result<()> {
     case(rt, name, &THREE, &[1, mode, k, budget, 3, 0, 2, 1, 1, 2, 1])
 }
 
@@ -66,27 +66,27 @@ fn three(rt: &impl Print, name: &str, mode: u32, k: u32, budget: u32) -> io::Res
 // 9: 10; 15 > 7: 13; 15 > 7: 15 enters. 3 scored, 10 in all.
 // 10: bar 15 = P(3), j = 3: not visited.
 fn pruned(rt: &impl Print) -> io::Result<()> {
-    three(rt, "pruned", 1, 1, 100)?;
+    three(rt, b"pruned", 1, 1, 100)?;
     // before 9: 7 + 3 = 10 is not above 10, but above 9
-    three(rt, "pruned, budget 10", 1, 1, 10)?;
-    three(rt, "pruned, budget 9", 1, 1, 9)?;
+    three(rt, b"pruned, budget 10", 1, 1, 10)?;
+    three(rt, b"pruned, budget 9", 1, 1, 9)?;
     // before 6: 6 + 3 = 9 is above 8
-    three(rt, "pruned, budget 8", 1, 1, 8)?;
+    three(rt, b"pruned, budget 8", 1, 1, 8)?;
     // before 5: 4 + 3 = 7 is not above 7
-    three(rt, "pruned, budget 7", 1, 1, 7)
+    three(rt, b"pruned, budget 7", 1, 1, 7)
 }
 
 // The same on both sides of the documents that are dropped.
 fn pruned_low(rt: &impl Print) -> io::Result<()> {
     // before 5: 4 + 3 = 7 is above 6
-    three(rt, "pruned, budget 6", 1, 1, 6)?;
+    three(rt, b"pruned, budget 6", 1, 1, 6)?;
     // before 4: 2 + 3 = 5 is not above 5, but above 4
-    three(rt, "pruned, budget 5", 1, 1, 5)?;
-    three(rt, "pruned, budget 4", 1, 1, 4)?;
+    three(rt, b"pruned, budget 5", 1, 1, 5)?;
+    three(rt, b"pruned, budget 4", 1, 1, 4)?;
     // before 3: 1 + 3 = 4 is above 3
-    three(rt, "pruned, budget 3", 1, 1, 3)?;
+    three(rt, b"pruned, budget 3", 1, 1, 3)?;
     // before 1: 0 + 3 is above 2
-    three(rt, "pruned, budget 2", 1, 1, 2)
+    three(rt, b"pruned, budget 2", 1, 1, 2)
 }
 
 // Two rows, and mode 0.
@@ -94,32 +94,32 @@ fn two_rows(rt: &impl Print) -> io::Result<()> {
     // the bar is 0 until two rows stand. 1: 6, 1 scored. 2: bar 0, j = 0; 1, 1 scored. 3: bar 1, j = 0; 4 + 2, 2 scored. 4: bar 6, j = 2; 2, 7 > 6: 3; 5 is
     // at most 6: dropped, 2 scored. 5: 4; 9 > 6: 7; 9 > 6: enters, 2 scored. 6: bar 6; 2; 7 > 6, rank 2 lacks it; 4: dropped, 1 scored. 9: 15, 3 scored.
     // 10: bar 7, j = 2: not visited. 1 + 1 + 2 + 2 + 2 + 1 + 3
-    three(rt, "pruned, k = 2", 1, 2, 100)?;
+    three(rt, b"pruned, k = 2", 1, 2, 100)?;
     // every posting: 6 + 5 + 3
-    three(rt, "plain", 0, 1, 100)?;
+    three(rt, b"plain", 0, 1, 100)?;
     // before 10: 13 + 3 = 16 is not above 16, but above 15, though document 10 has one posting only
-    three(rt, "plain, budget 16", 0, 1, 16)?;
-    three(rt, "plain, budget 15", 0, 1, 15)
+    three(rt, b"plain, budget 16", 0, 1, 16)?;
+    three(rt, b"plain, budget 15", 0, 1, 15)
 }
 
 // k = 1, weight 1: a later document enters if its score is above, and not if it is the same.
 fn ties(rt: &impl Print) -> io::Result<()> {
-    case(rt, "7 then 7, mode 0", &SAME, &[1, 0, 1, 100, 1, 0, 1])?;
+    case(rt, b"7 then 7, mode 0", &SAME, &[1, 0, 1, 100, 1, 0, 1])?;
     // the bar is 7, the ceiling 8: visited
-    case(rt, "7 then 8, mode 1", &RISING, &[1, 1, 1, 100, 1, 0, 1])?;
-    case(rt, "7 then 8, mode 0", &RISING, &[1, 0, 1, 100, 1, 0, 1])?;
+    case(rt, b"7 then 8, mode 1", &RISING, &[1, 1, 1, 100, 1, 0, 1])?;
+    case(rt, b"7 then 8, mode 0", &RISING, &[1, 0, 1, 100, 1, 0, 1])?;
     // the bar is 8, the ceiling 8: not visited
-    case(rt, "8 then 7, mode 1", &FALLING, &[1, 1, 1, 100, 1, 0, 1])?;
+    case(rt, b"8 then 7, mode 1", &FALLING, &[1, 1, 1, 100, 1, 0, 1])?;
     // the bar is 0 before two rows stand: document 6 is visited, and stands below the earlier
-    case(rt, "7 then 7, k = 2", &SAME, &[1, 1, 2, 100, 1, 0, 1])
+    case(rt, b"7 then 7, k = 2", &SAME, &[1, 1, 2, 100, 1, 0, 1])
 }
 
 // Both ceilings are 3, the bar is 3 after document 0, and P is 0, 3, 6: the mention that comes first in the query is aside.
 fn ceilings(rt: &impl Print) -> io::Result<()> {
     // term 0 is aside. 1: 3; 3 + 3 > 3, term 0 is looked up and lacks it, 1 scored; 3 does not enter. 2 and 3: not visited
-    case(rt, "terms 0, 1", &LEVEL, &[1, 1, 1, 100, 2, 0, 1, 1, 1])?;
+    case(rt, b"terms 0, 1", &LEVEL, &[1, 1, 1, 100, 2, 0, 1, 1, 1])?;
     // term 1 is aside. 1: not visited. 2 and 3: 3; 3 + 3 > 3, term 1 is looked up and lacks it, 1 scored each
-    case(rt, "terms 1, 0", &LEVEL, &[1, 1, 1, 100, 2, 1, 1, 0, 1])
+    case(rt, b"terms 1, 0", &LEVEL, &[1, 1, 1, 100, 2, 1, 1, 0, 1])
 }
 
 fn main(rt: HostRuntime) -> io::Result<()> {
