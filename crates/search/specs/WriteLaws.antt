@@ -1,6 +1,6 @@
 -- A stretch filled row by row: what stands in it after i rows, and that zeros after all of them fill it.
 use Rattle.std.specs.Prelude.{◌≡◌, refl, List, [], ◌∷◌, ◌++◌, ℕ, zero, suc, ◌+◌, ◌-◌, ◌*◌, ◌≤◌, length, get_or, take, set, replicate}
-use Rattle.std.proofs.Common.{sym, ap, ◌∙◌, append-nil, append_assoc, arith}
+use Rattle.std.proofs.Common.{sym, ap, ◌∙◌, append-nil, append_assoc, arith, take_all}
 use Rattle.meaning.specs.declared.Row.{Row}
 use Rattle.meaning.specs.Rank.{no_row}
 use Rattle.meaning.specs.Answer.{filled}
@@ -69,10 +69,14 @@ filled_rest (suc k) (r ∷ rows) h =
     let left : suc k - suc (length rows) ≡ k - length rows = omega arith in
     rw (left, filled_rest k rows (omega arith))
 
+-- all of it, after k rows
+pub written_all : (front out : List ℕ) (rows : List Row) (k : ℕ) → length out ≡ 3 + 2 * k → WrittenTo front rows k out → out ≡ front ++ filled k rows
+written_all front out rows k size w = sym (take_all (3 + 2 * k) out (omega arith)) ∙ w
+
 -- all of it, once the rest is zeros
-pub written_all :
+pub written_rest :
     (front out : List ℕ) (rows : List Row) (k : ℕ) → length rows ≤ k → length out ≡ 3 + 2 * k → WrittenTo front rows (length rows) out →
     take (3 + 2 * length rows) out ++ replicate (length out - (3 + 2 * length rows)) 0 ≡ front ++ filled k rows
-written_all front out rows k few size w =
+written_rest front out rows k few size w =
     let left : length out - (3 + 2 * length rows) ≡ 2 * (k - length rows) = omega arith in
     rw (w, left) (append_assoc front _ _ ∙ ap (λ (l : List ℕ). front ++ l) (filled_rest k rows few))

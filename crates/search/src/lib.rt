@@ -17,7 +17,7 @@ use ranking::Table;
 use sheet::Record;
 
 // What a query's walk has found when it ends: the table, the place, and the postings scored.
-#[derive(Drop)]
+#[derive(Clone, Copy)]
 pub struct Found {
     pub table: Table,
     pub place: u32,

@@ -10,7 +10,7 @@ pub fn write(found: &super::Found, out: &mut [u32])
     ensures { out.new ≡ found.now.place ∷ length (rows_of found.now.table) ∷ found.now.scored
         ∷ filled found.now.table.k (rows_of found.now.table) }
 {
-    let rows = &found.table.rows;
+    let rows = found.table.rows();
     let n = rows.len();
     out[0] = found.place;
     out[1] = n as u32;

@@ -2,17 +2,15 @@
 use Rattle.std.proofs.Common.{rules}
 use Rattle.search.proofs.AllLoop.{going_first, going_finished, going_stopped, going_later, going_entered, going_falls}
 use Rattle.search.proofs.all.all_term.Goals as goal
-use Rattle.search.proofs.all.all_term.Goals.{in-Finished, in-Stopped}
 
 pub loop-past-init : goal.loop-past-init
 loop-past-init c = search (rules, going_first)
 
-pub returns : goal.returns
-returns c =
-    elim c.match-visit.branch [
-      | in-Finished m ↦ rw m.place-is (search (rules, going_finished))
-      | in-Stopped m ↦ rw m.place-is (search (rules, going_stopped))
-    ]
+pub returns-in-Finished : goal.returns-in-Finished
+returns-in-Finished c = search (rules, going_finished)
+
+pub returns-in-Stopped : goal.returns-in-Stopped
+returns-in-Stopped c = search (rules, going_stopped)
 
 pub insert-requires-clause-later : goal.insert-requires-clause-later
 insert-requires-clause-later c = search (rules, going_later)

@@ -2,7 +2,6 @@
 use Rattle.std.proofs.Common.{rules, arith, ◌≡◌, sym, ◌∙◌, cond}
 use Rattle.search.proofs.AnyLoop.{ordered_small, ground, first_sum, going_first, going_starts, rank_low, going_finished, going_stopped, going_later, rank_below, least_entered, least_falls, same_entered, same_falls}
 use Rattle.search.proofs.any.any_term.Goals as goal
-use Rattle.search.proofs.any.any_term.Goals.{in-Finished, in-Stopped}
 
 pub prefix-pre-requires : goal.prefix-pre-requires
 prefix-pre-requires c = search (rules, ordered_small)
@@ -23,12 +22,11 @@ walk-visit-requires c =
     let low = rank_low c.loop-past.invariant c.bar-bar.ensures in
     search (rules, going_starts)
 
-pub returns : goal.returns
-returns c =
-    elim c.match-visit.branch [
-      | in-Finished m ↦ rw m.place-is (search (rules, going_finished))
-      | in-Stopped m ↦ rw m.place-is (search (rules, going_stopped))
-    ]
+pub returns-in-Finished : goal.returns-in-Finished
+returns-in-Finished c = search (rules, going_finished)
+
+pub returns-in-Stopped : goal.returns-in-Stopped
+returns-in-Stopped c = search (rules, going_stopped)
 
 pub insert-requires-clause-later : goal.insert-requires-clause-later
 insert-requires-clause-later c = search (rules, going_later)
