@@ -1,5 +1,5 @@
 -- `write` meets its contract: after i turns the first 3 + 2i numbers stand, and zeros fill the stretch.
-use Rattle.std.proofs.Common.{rules, [], ◌∷◌, ◌∙◌, arith, ◌≡◌, ◌+◌, ◌-◌, ◌*◌, ◌++◌, ◌≤◌, ℕ, List, length, take, replicate, length-set, ap}
+use Rattle.std.proofs.Common.{rules, [], ◌∷◌, ◌∙◌, arith, ◌≡◌, ◌+◌, ◌-◌, ◌*◌, ◌++◌, ◌≤◌, ℕ, List, length, take, replicate, length-set, length-take, length-drop, ap}
 use Rattle.std.proofs.lemmas.Grind.{common_steps}
 use Rattle.meaning.specs.declared.Row.{Row}
 use Rattle.ranking.specs.Rows.{rows_of}
@@ -36,6 +36,7 @@ returns c =
     let size : length l.out ≡ 3 + 2 * t.k = omega (arith, simp length-set at l.auto.out) in
     let same : c.rows-rows.result.now ≡ rows = c.rows-rows.ensures in
     let done : l.i ≡ length rows = omega (arith, ap length same) in
-    let zeros : c.fill.new.self ≡ replicate (length l.out - (3 + 2 * length c.rows-rows.result.now)) 0 = grind (arith, common_steps) in
+    let zeros : c.fill.new.self ≡ replicate (length l.out - (3 + 2 * length c.rows-rows.result.now)) 0 =
+    c.fill.ensures.after (λ y same. same) ∙ ap (λ (n : ℕ). replicate n 0) (simp (length-take, length-drop) (omega arith)) in
     rw (zeros, same, rest_put (3 + 2 * length rows) l.out _ (omega arith))
     (written_rest (three_of f) l.out rows t.k few size (rw done at l.invariant))
