@@ -10,9 +10,10 @@ use Rattle.meaning.specs.Answer.{answer}
 use Rattle.meaning.specs.Call.{answers, needed}
 use Rattle.meaning.proofs.CallLaws.{answers_length}
 use Rattle.sheet.specs.declared.Record.{Record}
-use Rattle.sheet.specs.Record.{Readable, IsRecord, record_of, query_from}
-use Rattle.sheet.specs.QueryLaws.{sheet_some, needed_next, needed_most}
-use Rattle.sheet.specs.Standing.{Standing, standing_first, standing_query, standing_readable, standing_fits, standing_inside, standing_next, standing_count}
+use Rattle.sheet.specs.declared.Question.{Question}
+use Rattle.sheet.specs.Record.{Readable, IsRecord, Puts, record_of, question_of, query_from}
+use Rattle.sheet.specs.QueryLaws.{sheet_some, needed_next, needed_most, puts_same, puts_fits}
+use Rattle.sheet.specs.Standing.{Standing, standing_first, standing_query, standing_readable, standing_fits, standing_next, standing_more, standing_over, standing_left, standing_done}
 use Rattle.search.specs.Posed.{Posed}
 use Rattle.finder.specs.Fill.{Fills, Filled}
 
@@ -66,20 +67,28 @@ module _ {s sheet : List ℕ} {docs : ℕ} {before row : List ℕ} {i at start :
   pub going_length : length row ≡ length before
   going_length = rw g.holds (simp (length-append, length-drop) (omega (arith, done_length, within)))
 
-  -- after the last query the row is filled
-  pub going_ends : get_or sheet 0 0 ≤ i → Filled s sheet before row
+  -- the sheet's first number tells whether a number of the sheet is left
+  pub going_left : i < get_or sheet 0 0 → at < length sheet
+  unfolding T
+  going_left = standing_left sheet T qs i at g.standing
+
+  pub going_done : get_or sheet 0 0 ≤ i → length sheet ≤ at
+  unfolding T
+  going_done = standing_done sheet T qs i at g.standing
+
+  -- where no number of the sheet is left, the row is filled
+  pub going_ends : length sheet ≤ at → Filled s sheet before row
   unfolding T
   going_ends h queries e =
-      let count = standing_count sheet T qs i at g.standing in
       let same : qs ≡ queries = good_same (sym g.fills.fine ∙ e) in
-      let whole : take i qs ≡ qs = take_all i qs (omega arith) in
+      let whole : take i qs ≡ qs = take_all i qs (standing_over sheet T qs i at g.standing h) in
       let end : start ≡ needed queries = g.begins ∙ ap needed (whole ∙ same) in
       rw (g.holds, end, whole, same)
 
-  module _ (h : i < get_or sheet 0 0) where
+  module _ (h : at < length sheet) where
     more : i < length qs
     unfolding T
-    more = omega (arith, standing_count sheet T qs i at g.standing)
+    more = standing_more sheet T qs i at g.standing h
 
     pub going_readable : Readable sheet at
     unfolding T
@@ -87,7 +96,7 @@ module _ {s sheet : List ℕ} {docs : ℕ} {before row : List ℕ} {i at start :
 
     module _ (r : Record) (is : IsRecord sheet at r) where
       -- the record is that of query i
-      here : record_of r ≡ get_or qs i (query_from sheet 0)
+      here : record_of sheet r ≡ get_or qs i (query_from sheet 0)
       unfolding T
       here = let d = query_from sheet 0 in is.0 T i (get_or qs i d) (standing_query sheet T qs i at g.standing more d)
 
@@ -96,31 +105,43 @@ module _ {s sheet : List ℕ} {docs : ℕ} {before row : List ℕ} {i at start :
           let k : r.k ≡ (get_or qs i (query_from sheet 0)).k = ap (λ (q : Query). q.k) here in
           omega (arith, needed_next qs i more (query_from sheet 0), g.begins)
 
-      pub going_posed : Posed s r docs
+      -- its pairs are on the sheet
+      pub going_inside : r.pairs + 2 * r.q ≤ length sheet
       unfolding T
-      going_posed = record { image = g.fills.image; all = g.fills.all; fits = standing_fits sheet T qs i at g.standing more r is }
-
-      -- its numbers are on the sheet
-      pub going_inside : at + 4 + length r.pairs.now ≤ length sheet
-      unfolding T
-      going_inside = standing_inside sheet T qs i at g.standing more r is
+      going_inside = (standing_fits sheet T qs i at g.standing more r is).all
 
       -- its stretch is within the row
-      pub going_room : start + (3 + 2 * r.k) ≤ length row
-      going_room = omega (arith, next, needed_most qs (i + 1), g.fills.room, going_length)
+      pub going_room : start + (3 + 2 * r.k) ≤ length before
+      going_room = omega (arith, next, needed_most qs (i + 1), g.fills.room)
+
+      pub going_stretch : start + (3 + 2 * r.k) ≤ length row
+      going_stretch = omega (arith, going_room, going_length)
 
       -- the stretch filled with its answer
-      pub going_next : (past end : ℕ) → past ≡ at + (4 + length r.pairs.now) → end ≡ start + 3 + 2 * r.k → (ys : List ℕ) → ys ≡ answer (index_of s) (record_of r) →
-          Going s sheet docs before (put_mid start (end - start) row ys) (i + 1) past end
+      pub going_next : (end : ℕ) → end ≡ start + 3 + 2 * r.k → (ys : List ℕ) → ys ≡ answer (index_of s) (record_of sheet r) →
+          Going s sheet docs before (put_mid start (end - start) row ys) (i + 1) (r.pairs + 2 * r.q) end
       unfolding T
-      going_next past end p e ys a =
+      going_next end e ys a =
           let d = query_from sheet 0 in
           let done = answers (index_of s) (take i qs) in
-          let same : past ≡ at + 4 + length r.pairs.now = omega arith in
           record {
             fills = g.fills;
-            standing = rw same (standing_next sheet T qs i at g.standing more r is);
+            standing = standing_next sheet T qs i at g.standing more r is;
             begins = omega (arith, next);
             holds = put_next done before row ys start end g.holds done_length (omega arith)
                 ∙ rw (answers_next (index_of s) qs i more d, a, here);
           }
+
+      -- as it is put to `answer_query`
+      module _ (p : Question) (puts : Puts sheet r p) where
+        pub going_posed : Posed s p docs
+        unfolding T
+        going_posed =
+            record {
+              image = g.fills.image;
+              all = g.fills.all;
+              fits = puts_fits sheet r p puts going_inside T (standing_fits sheet T qs i at g.standing more r is);
+            }
+
+        pub going_same : question_of p ≡ record_of sheet r
+        going_same = puts_same sheet r p puts going_inside

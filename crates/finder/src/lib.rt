@@ -20,11 +20,11 @@ fn fill(image: &[u8], sheet: &[u32], docs: u32, row: &mut [u32])
     let mut at: usize = 1;
     let mut start: usize = 0;
     for _ in 0..sheet[0] {
-        let query = sheet::read(sheet, at);
-        let end = start + 3 + 2 * query.k;
-        search::answer_query(image, query, docs, &mut row[start..end]);
+        let record = sheet::read(sheet, at);
+        let end = start + 3 + 2 * record.k;
+        search::answer_query(image, record.question(sheet), docs, &mut row[start..end]);
         start = end;
-        at += 4 + query.pairs.len();
+        at = record.pairs + 2 * record.q;
     }
 }
 

@@ -1,6 +1,6 @@
 -- The loop over a sheet's queries: after i of them their lines are laid, query i stands at number `query` of the sheet, and `rest` is what the
 -- answer row has from its stretch on.
-use Rattle.std.proofs.Common.{◌≡◌, refl, ap, List, ℕ, ◌+◌, ◌-◌, ◌*◌, ◌≤◌, ◌<◌, length, get_or, take, drop, arith, length-drop, get_or-drop, drop-drop, add_assoc}
+use Rattle.std.proofs.Common.{◌≡◌, refl, ap, List, ℕ, ◌+◌, ◌-◌, ◌*◌, ◌≤◌, ◌<◌, length, get_or, take, drop, arith, length-drop, get_or-drop, drop-drop}
 use Rattle.std.proofs.lemmas.Slice.{between_to_end}
 use Rattle.std.specs.Borrow.{MutBor}
 use Rattle.meaning.specs.Judged.{good}
@@ -10,7 +10,7 @@ use Rattle.meaning.specs.Call.{needed}
 use Rattle.sheet.specs.declared.Record.{Record}
 use Rattle.sheet.specs.Record.{Readable, IsRecord, query_from}
 use Rattle.sheet.specs.QueryLaws.{needed_next, needed_most}
-use Rattle.sheet.specs.Standing.{Standing, standing_first, standing_query, standing_readable, standing_fits, standing_inside, standing_next}
+use Rattle.sheet.specs.Standing.{Standing, standing_first, standing_query, standing_readable, standing_fits, standing_next}
 use Rattle.printing.specs.declared.Page.{Page}
 use Rattle.printing.specs.Text.{answer_lines, query_lines, sheet_lines}
 use Rattle.printing.specs.TextLaws.{queries_next, answer_drop}
@@ -33,7 +33,7 @@ start sheet row page p =
 -- what a turn needs of the lines so far, of its record, and of its stretch
 pub record Turn (sheet : List ℕ) (query : ℕ) (rest : List ℕ) (before page : Page) (r : Record) : Type 0 where
   pub near : page.at ≤ before.at + 176064
-  pub inside : query + 4 + length r.pairs.now ≤ length sheet
+  pub inside : r.pairs + 2 * r.q ≤ length sheet
   pub k_high : r.k ≤ 64
   pub rows : get_or rest 1 0 ≤ r.k
   pub room : 3 + 2 * r.k ≤ length rest
@@ -68,7 +68,7 @@ module _ {sheet row : List ℕ} {before : Page} {i query : ℕ} {rest : List ℕ
       turn =
           record {
             near = omega (arith, more, (sheet_good sheet T qs g.asked.accepted).some, g.laid.wrote.next_is, lines_length g.asked i (omega (arith, more)));
-            inside = standing_inside sheet T qs i query g.stands more r is;
+            inside = (standing_fits sheet T qs i query g.stands more r is).all;
             k_high = (standing_fits sheet T qs i query g.stands more r is).rows.1;
             rows = rw (g.rest_is, get_or-drop, k_is) (g.asked.found i more (query_from sheet 0));
             room = rw (g.rest_is, length-drop) (omega (arith, next, needed_most qs (i + 1), g.asked.room));
@@ -77,11 +77,11 @@ module _ {sheet row : List ℕ} {before : Page} {i query : ℕ} {rest : List ℕ
       -- once its lines are laid, the loop goes on behind it
       pub go_on :
           {p : Page} → Lays (answer_lines rest 0) page p →
-          Going sheet row before (i + 1) (query + (4 + length r.pairs.now)) (take (length rest - (3 + 2 * r.k)) (drop (3 + 2 * r.k) rest)) p
+          Going sheet row before (i + 1) (r.pairs + 2 * r.q) (take (length rest - (3 + 2 * r.k)) (drop (3 + 2 * r.k) rest)) p
       go_on {p} w =
           record {
             asked = g.asked;
-            stands = rw (← add_assoc) (standing_next sheet T qs i query g.stands more r is);
+            stands = standing_next sheet T qs i query g.stands more r is;
             rest_is = rw (between_to_end rest (3 + 2 * r.k) (length rest) (omega arith), g.rest_is, drop-drop, next);
             laid = rw (← queries_next row qs i, ← answer_drop row (needed (take i qs)), ← g.rest_is) (lays_then g.laid w);
           }

@@ -118,7 +118,7 @@ pub fn answers(out: &mut [u8], sheet: &[u32], row: &[u32]) -> usize
         let asked = sheet::read(sheet, query);
         page.answer(rest);
         rest = &rest[3 + 2 * asked.k..];
-        query += 4 + asked.pairs.len();
+        query = asked.pairs + 2 * asked.q;
     }
     page.at
 }

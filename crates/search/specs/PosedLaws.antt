@@ -8,8 +8,8 @@ use Rattle.meaning.specs.Answer.{filled, answer_of, answer}
 use Rattle.meaning.proofs.IndexLaws.{index_is, docs_small}
 use Rattle.ranking.specs.Rows.{rows_of}
 use Rattle.runs.specs.Found.{found_answer}
-use Rattle.sheet.specs.declared.Record.{Record}
-use Rattle.sheet.specs.Record.{terms_in, record_of}
+use Rattle.sheet.specs.declared.Question.{Question}
+use Rattle.sheet.specs.Record.{terms_in, question_of}
 use Rattle.mentions.specs.declared.Mention.{Mention}
 use Rattle.search.specs.declared.Found.{Found}
 use Rattle.search.specs.Gather.{Pairs, Gathered}
@@ -25,7 +25,7 @@ written_of f = f.place ∷ length (rows_of f.table) ∷ f.scored ∷ filled f.ta
 found_writes : (a : Asked) (f : Found) → FoundBy a f → written_of f ≡ answer_of a
 found_writes a f by = simp by.room (found_answer a f.place f.scored (rows_of f.table) by.found)
 
-module _ (s : List ℕ) (r : Record) (docs : ℕ) (a : Posed s r docs) where
+module _ (s : List ℕ) (r : Question) (docs : ℕ) (a : Posed s r docs) where
   pub posed_pairs : Pairs s r.pairs.now (terms_in r)
   posed_pairs =
       let f = a.fits in
@@ -52,7 +52,7 @@ module _ (s : List ℕ) (r : Record) (docs : ℕ) (a : Posed s r docs) where
         }
 
     pub posed_answer :
-        (f : Found) → FoundBy (asked_of s r.mode ms (terms_in r) r.k r.budget docs) f → written_of f ≡ answer (index_of s) (record_of r)
+        (f : Found) → FoundBy (asked_of s r.mode ms (terms_in r) r.k r.budget docs) f → written_of f ≡ answer (index_of s) (question_of r)
     unfolding answer asked mentions
     posed_answer f by =
         found_writes (asked_of s r.mode ms (terms_in r) r.k r.budget docs) f by

@@ -9,12 +9,12 @@ pub mod write;
 ghost use Rattle.std.specs.Prelude.{◌≡◌, ◌+◌, ◌*◌, length};
 ghost use Rattle.meaning.specs.Image.{index_of};
 ghost use Rattle.meaning.specs.Answer.{answer};
-ghost use Rattle.sheet.specs.Record.{record_of};
+ghost use Rattle.sheet.specs.Record.{question_of};
 ghost use Rattle.search.specs.Posed.{Posed};
 
 use meaning::Mode;
 use ranking::Table;
-use sheet::Record;
+use sheet::Question;
 
 // What a query's walk has found when it ends: the table, the place, and the postings scored.
 #[derive(Clone, Copy)]
@@ -25,9 +25,9 @@ pub struct Found {
 }
 
 // One query of an accepted sheet over an accepted image, into its own stretch of the answer row.
-pub fn answer_query(image: &[u8], query: Record, docs: u32, out: &mut [u32])
+pub fn answer_query(image: &[u8], query: Question, docs: u32, out: &mut [u32])
     requires { Posed image.now query docs × (length out.old ≡ 3 + 2 * query.k) }
-    ensures { out.new ≡ answer (index_of image.now) (record_of query.entry) }
+    ensures { out.new ≡ answer (index_of image.now) (question_of query.entry) }
 {
     let q = query.terms();
     let k = query.k;

@@ -10,10 +10,10 @@ use Rattle.meaning.specs.JudgedLaws.{bind_good, bind_same, need_good, good_same}
 use Rattle.meaning.specs.Sheet.{Pair, Query, within, mode_of, pairs_at, query_at, queries_at, sheet_of}
 use Rattle.meaning.specs.SheetLaws.{pairs_good, query_good}
 use Rattle.meaning.specs.Call.{needed}
-use Rattle.sheet.specs.declared.Record.{Record}
+use Rattle.sheet.specs.declared.Question.{Question}
 use Rattle.sheet.specs.Verdict.{needed_of}
 use Rattle.sheet.specs.Numbers.{asked_at, four_at, fair, HasPairs}
-use Rattle.sheet.specs.Record.{pairs_from, query_from, terms_in, record_of, Readable, IsRecord}
+use Rattle.sheet.specs.Record.{pairs_from, query_from, terms_in, question_of, Readable, IsQuestion}
 use Rattle.sheet.specs.QueryLaws.{pairs_length, pairs_part, pairs_are, query_is, pairs_size, readable_four}
 
 -- the pairs that follow four numbers, in a row of their own
@@ -88,7 +88,7 @@ pairs_alone (good ps) q h = ap good (h ps refl)
 pairs_alone (bad n p) q h = refl
 
 -- pairs without fault are those that stand there
-pairs_stand : (r : Record) (T i : ℕ) (ps : List Pair) → pairs_at r.pairs.now T i 0 (terms_in r) ≡ good ps → with_pairs (record_of r) ps ≡ record_of r
+pairs_stand : (r : Question) (T i : ℕ) (ps : List Pair) → pairs_at r.pairs.now T i 0 (terms_in r) ≡ good ps → with_pairs (question_of r) ps ≡ question_of r
 unfolding with_pairs
 pairs_stand r T i ps e =
     let f = pairs_good r.pairs.now T i 0 (terms_in r) ps e in
@@ -101,23 +101,23 @@ module _ (s : List ℕ) (i : ℕ) where
 
   -- and after them its pairs are judged
   four_fine :
-      (r : Record) → r.pairs.now ≡ take (2 * get_or s 3 0) (drop 4 s) → good (record_of r) ≡ four_at s i → (T : ℕ) →
-      (fair r.pairs.now T i >>= λ _. good (record_of r)) ≡ query_at s T i 0
+      (r : Question) → r.pairs.now ≡ take (2 * get_or s 3 0) (drop 4 s) → good (question_of r) ≡ four_at s i → (T : ℕ) →
+      (fair r.pairs.now T i >>= λ _. good (question_of r)) ≡ query_at s T i 0
   unfolding fair
   four_fine r p e T =
       let n = get_or s 3 0 in
-      let x = four_inside s i (record_of r) (sym e) in
+      let x = four_inside s i (question_of r) (sym e) in
       let size : terms_in r ≡ n = row_size s r.pairs.now p x.0 in
       let row : pairs_at r.pairs.now T i 0 n ≡ pairs_at s T i 4 n = rw (p, pairs_taken (drop 4 s) (2 * n) T i 0 n (omega arith)) (pairs_dropped s 4 T i 0 n) in
-      sym (rw (query_parts s T i, ← e, pairs_length r.pairs.now 0 (terms_in r), size, ← row, ← size) (pairs_alone (pairs_at r.pairs.now T i 0 (terms_in r)) (record_of r) (pairs_stand r T i)))
+      sym (rw (query_parts s T i, ← e, pairs_length r.pairs.now 0 (terms_in r), size, ← row, ← size) (pairs_alone (pairs_at r.pairs.now T i 0 (terms_in r)) (question_of r) (pairs_stand r T i)))
 
-  module _ (r : Record) (T number : ℕ) where
+  module _ (r : Question) (T number : ℕ) where
     pub pairs_off :
-        good (record_of r) ≡ four_at s i → HasPairs s (Ok r) → bad number i ≡ fair r.pairs.now T i → bad number i ≡ query_at s T i 0
+        good (question_of r) ≡ four_at s i → HasPairs s (Ok r) → bad number i ≡ fair r.pairs.now T i → bad number i ≡ query_at s T i 0
     pairs_off e p h = rw (← four_fine r p e T, ← h)
 
   pub pairs_fine :
-      (r : Record) (T : ℕ) → good (record_of r) ≡ four_at s i → HasPairs s (Ok r) → good (tt {0}) ≡ fair r.pairs.now T i → good (record_of r) ≡ query_at s T i 0
+      (r : Question) (T : ℕ) → good (question_of r) ≡ four_at s i → HasPairs s (Ok r) → good (tt {0}) ≡ fair r.pairs.now T i → good (question_of r) ≡ query_at s T i 0
   pairs_fine r T e p h = rw (← four_fine r p e T, ← h)
 
 -- the pairs as rows of two
@@ -233,16 +233,16 @@ module _ (s : List ℕ) (T i filled : ℕ) where
 
   -- the queries after one without fault, of the n of a sheet
   pub query_next :
-      (n : ℕ) (total : Judged ℕ) (x : Result Record Fault) (r : Record) (after : List ℕ) → x ≡ Ok r →
+      (n : ℕ) (total : Judged ℕ) (x : Result Question Fault) (r : Question) (after : List ℕ) → x ≡ Ok r →
       ((i : ℕ) → asked_at i x ≡ query_at s T i 0) → HasPairs s x → i < n →
       after ≡ take (length s - (4 + length r.pairs.now)) (drop (4 + length r.pairs.now) s) →
       needed_from filled (queries_at s T i 0 (n - i)) ≡ total → needed_from (filled + (3 + 2 * r.k)) (queries_at after T (i + 1) 0 (n - (i + 1))) ≡ total
   query_next n total x r after was says pairs more cut all =
-      let e : query_at s T i 0 ≡ good (record_of r) = sym (rw was at (says i)) in
-      let size = pairs_size s T i 0 (record_of r) r.pairs.now e (rw was at pairs) in
+      let e : query_at s T i 0 ≡ good (question_of r) = sym (rw was at (says i)) in
+      let size = pairs_size s T i 0 (question_of r) r.pairs.now e (rw was at pairs) in
       let left : n - (i + 1) ≡ n - i - 1 = omega arith in
       let whole : length (drop (4 + length r.pairs.now) s) ≤ length s - (4 + length r.pairs.now) = omega (arith, length-drop (4 + length r.pairs.now) s) in
-      rw (cut, take_all _ _ whole, size, left) (sym (query_on (n - i) (record_of r) (omega arith) e) ∙ all)
+      rw (cut, take_all _ _ whole, size, left) (sym (query_on (n - i) (question_of r) (omega arith) e) ∙ all)
 
   pub sheet_ends : (n : ℕ) → i ≡ n → length s ≡ 0 → needed_from filled (queries_at s T i 0 (n - i)) ≡ good filled
   unfolding needed_from queries_at needed
@@ -267,16 +267,16 @@ four_of s T i q e =
     let x = bind_good (four_at s i) _ (sym (query_parts s T i) ∙ e) in
     x.1 ∙ ap (λ (y : Query). good y) ((four_inside s i x.0 x.1).1 ∙ query_is s T i 0 q e)
 
-asked_ok : (x : Result Record Fault) (i : ℕ) (q : Query) → asked_at i x ≡ good q → IsOk x
+asked_ok : (x : Result Question Fault) (i : ℕ) (q : Query) → asked_at i x ≡ good q → IsOk x
 asked_ok (Ok r) i q e = refl
 asked_ok (Err fault) i q e = cc
 
--- where a record can be read, its numbers begin, and what is read of them is that record
+-- where a record can be read, its numbers begin, and what is read of them is that query
 module _ (s : List ℕ) (at : ℕ) where
   pub readable_at : Readable s at → at ≤ length s
   readable_at r = omega (arith, readable_four s at r)
 
-  module _ (rest : List ℕ) (cut : rest ≡ take (length s - at) (drop at s)) (x : Result Record Fault) (says : (i : ℕ) → asked_at i x ≡ four_at rest i) where
+  module _ (rest : List ℕ) (cut : rest ≡ take (length s - at) (drop at s)) (x : Result Question Fault) (says : (i : ℕ) → asked_at i x ≡ four_at rest i) where
     whole : rest ≡ drop at s
     whole = cut ∙ take_all _ _ (omega (arith, length-drop at s))
 
@@ -289,8 +289,8 @@ module _ (s : List ℕ) (at : ℕ) where
     pub reads_ok : Readable s at → IsOk x
     reads_ok r = asked_ok x r.i r.query (reads r.T r.i r.query r.fine)
 
-    pub reads_record : (r : Record) → HasPairs rest x → x ≡ Ok r → IsRecord s at r
-    reads_record r pairs was = (
+    pub reads_question : (r : Question) → HasPairs rest x → x ≡ Ok r → IsQuestion s at r
+    reads_question r pairs was = (
       λ T i q e. good_same (rw was at (reads T i q e)),
       rw (was, whole, get_or-drop at s 3 0, drop-drop 4 at s) at pairs,
     )

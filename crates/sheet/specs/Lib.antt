@@ -1,4 +1,5 @@
 pub mod Verdict
+pub mod RoomLaws
 pub mod Numbers
 pub mod Record
 pub mod QueryLaws

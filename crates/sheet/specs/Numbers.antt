@@ -4,12 +4,12 @@ use Rattle.meaning.specs.declared.Fault.{Fault}
 use Rattle.meaning.specs.Judged.{Judged, good, bad, ◌>>=◌, need}
 use Rattle.meaning.specs.Refusals.{fault_number}
 use Rattle.meaning.specs.Sheet.{Query, within, pairs_at}
-use Rattle.sheet.specs.declared.Record.{Record}
-use Rattle.sheet.specs.Record.{query_from, record_of}
+use Rattle.sheet.specs.declared.Question.{Question}
+use Rattle.sheet.specs.Record.{query_from, question_of}
 
 -- what each case of a reading says, of query i
-abbrev pub asked_at : ℕ → Result Record Fault → Judged Query
-asked_at i (Ok r) = good (record_of r)
+abbrev pub asked_at : ℕ → Result Question Fault → Judged Query
+asked_at i (Ok p) = good (question_of p)
 asked_at i (Err fault) = bad (fault_number fault) i
 
 -- "a query's four numbers (9 if any is missing), 10, 11, 12, its pairs (9 if any number is missing)": the query with its pairs, not judged
@@ -29,6 +29,6 @@ fair s T i = do
   _ ← pairs_at s T i 0 (length s / 2)
   good tt
 
--- a record's pairs are those that follow its four numbers
-abbrev pub HasPairs : List ℕ → Result Record Fault → Type 0
-HasPairs s found = IfOk found (λ r. r.pairs.now ≡ take (2 * get_or s 3 0) (drop 4 s))
+-- a question's pairs are those that follow its four numbers
+abbrev pub HasPairs : List ℕ → Result Question Fault → Type 0
+HasPairs s found = IfOk found (λ p. p.pairs.now ≡ take (2 * get_or s 3 0) (drop 4 s))

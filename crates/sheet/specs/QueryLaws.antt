@@ -16,8 +16,9 @@ use Rattle.meaning.specs.SheetFits.{Within, PairFits, PairsFit, QueriesFit}
 use Rattle.meaning.specs.SheetLaws.{query_good, pair_at_lem, sheet_good, query_at_lem}
 use Rattle.meaning.specs.Call.{needed}
 use Rattle.sheet.specs.declared.Record.{Record}
+use Rattle.sheet.specs.declared.Question.{Question}
 use Rattle.sheet.specs.Verdict.{needed_of}
-use Rattle.sheet.specs.Record.{Readable, IsRecord, pair_at, pairs_from, query_from, terms_in, record_of}
+use Rattle.sheet.specs.Record.{Readable, IsRecord, IsQuestion, Puts, pair_at, pairs_from, query_from, terms_in, record_of, question_of}
 
 -- where a reading is carried on with no further test, its fault is the fault, and what is accepted comes of what was read
 pub only_good : {A B : Type 0} (j : Judged A) (f : A → B) (b : B) → good b ≡ (j >>= λ a. good (f a)) → (a : A) × (j ≡ good a) × (f a ≡ b)
@@ -55,6 +56,10 @@ module _ (s : List ℕ) where
       let f = query_good s T i at q e in
       rw (← f.mode, ← f.k, ← f.budget, ← f.count, pairs_are T (at + 4) q.pairs f.pairs)
 
+  -- a record has as many terms as the query that it stands for
+  pub record_terms : (r : Record) (q : Query) → record_of s r ≡ q → r.q ≡ length q.pairs
+  record_terms r q e = sym (pairs_length r.pairs r.q) ∙ ap (λ (x : Query). length x.pairs) e
+
 -- the pairs of a part of a sheet
 pub pairs_part :
     (s : List ℕ) (from n at q : ℕ) → at + 2 * q ≤ n → pairs_from (take n (drop from s)) at q ≡ pairs_from s (from + at) q
@@ -65,9 +70,9 @@ pairs_part s from n at (suc q) h =
     let weight : at + 1 < n = omega arith in
     simp (get_or-take, get_or-drop, add_assoc, pairs_part s from n (at + 2) q (omega arith))
 
--- a record has as many terms as the query that it stands for
-pub record_terms : (r : Record) (q : Query) → record_of r ≡ q → terms_in r ≡ length q.pairs
-record_terms r q e = sym (pairs_length r.pairs.now 0 (terms_in r)) ∙ ap (λ (x : Query). length x.pairs) e
+-- and so has a question
+pub question_terms : (p : Question) (q : Query) → question_of p ≡ q → terms_in p ≡ length q.pairs
+question_terms p q e = sym (pairs_length p.pairs.now 0 (terms_in p)) ∙ ap (λ (x : Query). length x.pairs) e
 
 -- the pairs that follow a query's four numbers
 pub pairs_size :
@@ -79,34 +84,103 @@ pairs_size s T i at q ps e p =
     omega (arith, f.count, ap length p, length-take-le _ _ few)
 
 -- what is known of a record that was read from a sheet for T terms
-pub record RecordFits (T : ℕ) (r : Record) : Type 0 where
+pub record RecordFits (s : List ℕ) (T : ℕ) (r : Record) : Type 0 where
   pub rows : Within 1 64 r.k
-  pub terms : Within 1 16 (terms_in r)
-  pub whole : length r.pairs.now ≡ 2 * terms_in r
-  pub pair : (j : ℕ) → j < terms_in r → PairFits r.pairs.now T (2 * j) (pair_at r.pairs.now (2 * j))
+  pub terms : Within 1 16 r.q
+  pub all : r.pairs + 2 * r.q ≤ length s
+  pub pair : (j : ℕ) → j < r.q → PairFits s T (r.pairs + 2 * j) (pair_at s (r.pairs + 2 * j))
 
 pub record_fits :
-    (s : List ℕ) (T i at : ℕ) (q : Query) (r : Record) → query_at s T i at ≡ good q → IsRecord s at r → RecordFits T r
+    (s : List ℕ) (T i at : ℕ) (q : Query) (r : Record) → query_at s T i at ≡ good q → IsRecord s at r → RecordFits s T r
 record_fits s T i at q r e is =
     let f = query_good s T i at q e in
-    let same : record_of r ≡ q = is.0 T i q e in
-    let ps : pairs_from r.pairs.now 0 (terms_in r) ≡ q.pairs = ap (λ (x : Query). x.pairs) same in
+    let same : record_of s r ≡ q = is.0 T i q e in
+    let ps : pairs_from s r.pairs r.q ≡ q.pairs = ap (λ (x : Query). x.pairs) same in
     let k : r.k ≡ q.k = ap (λ (x : Query). x.k) same in
-    let n = record_terms r q same in
+    let n = record_terms s r q same in
     record {
       rows = omega arith;
       terms = omega arith;
-      whole = omega (arith, pairs_size s T i at q r.pairs.now e is.1);
+      all = omega (arith, is.1);
       pair = λ j h.
-          let here : get_or q.pairs j (pair_at s 0) ≡ pair_at r.pairs.now (2 * j) =
-          rw (← ps, ← zero-add (2 * j)) (pairs_at_lem r.pairs.now 0 (terms_in r) j (pair_at s 0) h) in
-          let g = rw here at (pair_at_lem s T (at + 4) q.pairs f.pairs j (omega arith) (pair_at s 0)) in
-          record { term = refl; weight = refl; below = g.below; weighs = g.weighs };
+          rw (← pairs_at_lem s r.pairs r.q j (pair_at s 0) h, ps, is.1)
+          (pair_at_lem s T (at + 4) q.pairs f.pairs j (omega arith) (pair_at s 0));
     }
 
 -- where a record can be read, its four numbers are there
 pub readable_four : (s : List ℕ) (at : ℕ) → Readable s at → at + 4 ≤ length s
 readable_four s at r = (query_good s r.T r.i at r.query r.fine).four
+
+-- the same of a question, whose pairs stand by themselves
+pub record QuestionFits (T : ℕ) (p : Question) : Type 0 where
+  pub rows : Within 1 64 p.k
+  pub terms : Within 1 16 (terms_in p)
+  pub whole : length p.pairs.now ≡ 2 * terms_in p
+  pub pair : (j : ℕ) → j < terms_in p → PairFits p.pairs.now T (2 * j) (pair_at p.pairs.now (2 * j))
+
+-- a record that is put, its pairs on the sheet
+module _ (s : List ℕ) (r : Record) (p : Question) (puts : Puts s r p) (all : r.pairs + 2 * r.q ≤ length s) where
+  puts_length : length p.pairs.now ≡ 2 * r.q
+  puts_length =
+      let few : 2 * r.q ≤ length (drop r.pairs s) = simp length-drop (omega arith) in
+      ap length puts.pairs ∙ length-take-le _ _ few
+
+  pub puts_terms : terms_in p ≡ r.q
+  puts_terms = omega (arith, puts_length)
+
+  -- it is the query that the record stands for
+  pub puts_same : question_of p ≡ record_of s r
+  puts_same =
+      let row = rw (add-zero r.pairs) at (pairs_part s r.pairs (2 * r.q) 0 r.q (omega arith)) in
+      rw (puts.mode, puts.k, puts.budget, puts_terms, puts.pairs, row)
+
+  puts_number : (x : ℕ) → x < 2 * r.q → get_or p.pairs.now x 0 ≡ get_or s (r.pairs + x) 0
+  puts_number x h = rw puts.pairs (get_or-take (2 * r.q) (drop r.pairs s) x 0 h ∙ get_or-drop r.pairs s x 0)
+
+  pub puts_fits : (T : ℕ) → RecordFits s T r → QuestionFits T p
+  puts_fits T f =
+      record {
+        rows = rw puts.k f.rows;
+        terms = rw puts_terms f.terms;
+        whole = omega (arith, puts_length);
+        pair = λ j h.
+            let g = f.pair j (omega (arith, puts_terms)) in
+            let term = puts_number (2 * j) (omega (arith, puts_terms)) in
+            let weight = rw (← add_assoc r.pairs (2 * j) 1) at (puts_number (2 * j + 1) (omega (arith, puts_terms))) in
+            record { term = refl; weight = refl; below = rw term g.below; weighs = rw weight g.weighs };
+      }
+
+  -- and put from a record that was read, it is the query that was read
+  pub puts_question : (at : ℕ) → Readable s at → IsRecord s at r → IsQuestion s at p
+  puts_question at x is =
+      let n = record_terms s r x.query (is.0 x.T x.i x.query x.fine) ∙ (query_good s x.T x.i at x.query x.fine).count in
+      (λ T i q e. puts_same ∙ is.0 T i q e, rw (← n, ← is.1) puts.pairs)
+
+-- the record whose pairs stand behind a query's four numbers
+abbrev pub record_at : ℕ → Question → Record
+record_at at p = record { mode = p.mode; k = p.k; budget = p.budget; q = terms_in p; pairs = at + 4 }
+
+module _ (s : List ℕ) (at : ℕ) (p : Question) (is : IsQuestion s at p) where
+  module _ (T i : ℕ) (q : Query) (e : query_at s T i at ≡ good q) where
+    at_terms : terms_in p ≡ length q.pairs
+    at_terms = question_terms p q (is.0 T i q e)
+
+    at_puts : Puts s (record_at at p) p
+    at_puts =
+        let n : terms_in p ≡ get_or s (at + 3) 0 = at_terms ∙ (query_good s T i at q e).count in
+        record { mode = refl; k = refl; budget = refl; pairs = rw n is.1 }
+
+    at_inside : at + 4 + 2 * terms_in p ≤ length s
+    at_inside = omega (arith, at_terms, (query_good s T i at q e).all)
+
+  -- what a question tells is so of its record
+  pub question_record : IsRecord s at (record_at at p)
+  question_record = (λ T i q e. sym (puts_same s (record_at at p) p (at_puts T i q e) (at_inside T i q e)) ∙ is.0 T i q e, refl)
+
+  -- and the question fits as the record does
+  pub question_fits : (T i : ℕ) (q : Query) → query_at s T i at ≡ good q → QuestionFits T p
+  question_fits T i q e =
+      puts_fits s (record_at at p) p (at_puts T i q e) (at_inside T i q e) T (record_fits s T i at q (record_at at p) e question_record)
 
 -- the first of the queries without fault, and those after it
 module _ (s : List ℕ) (T : ℕ) where

@@ -1,8 +1,9 @@
--- The query that a record stands for, where a record can be read, and what reading one gives.
+-- The query that a record stands for, and that is put; where a record can be read, and what reading one gives.
 use Rattle.std.specs.Prelude.{ℕ, zero, suc, ◌+◌, ◌*◌, ◌/◌, ◌≡◌, List, [], ◌∷◌, length, get_or, take, drop}
 use Rattle.meaning.specs.Judged.{good}
 use Rattle.meaning.specs.Sheet.{Pair, Query, mode_of, query_at}
 use Rattle.sheet.specs.declared.Record.{Record}
+use Rattle.sheet.specs.declared.Question.{Question}
 
 -- the pair at number `at` of a sheet
 abbrev pub pair_at : List ℕ → ℕ → Pair
@@ -23,13 +24,24 @@ query_from s at =
       pairs = pairs_from s (at + 4) (get_or s (at + 3) 0);
     }
 
--- how many terms a record has
-abbrev pub terms_in : Record → ℕ
-terms_in r = length r.pairs.now / 2
+-- the query that a record of the sheet s stands for
+abbrev pub record_of : List ℕ → Record → Query
+record_of s r = record { mode = r.mode; k = r.k; budget = r.budget; pairs = pairs_from s r.pairs r.q }
 
--- the query that a record stands for
-abbrev pub record_of : Record → Query
-record_of r = record { mode = r.mode; k = r.k; budget = r.budget; pairs = pairs_from r.pairs.now 0 (terms_in r) }
+-- how many terms a question has
+abbrev pub terms_in : Question → ℕ
+terms_in p = length p.pairs.now / 2
+
+-- the query that is put
+abbrev pub question_of : Question → Query
+question_of p = record { mode = p.mode; k = p.k; budget = p.budget; pairs = pairs_from p.pairs.now 0 (terms_in p) }
+
+-- the record r of the sheet s is put as p
+pub record Puts (s : List ℕ) (r : Record) (p : Question) : Type 0 where
+  pub mode : p.mode ≡ r.mode
+  pub k : p.k ≡ r.k
+  pub budget : p.budget ≡ r.budget
+  pub pairs : p.pairs.now ≡ take (2 * r.q) (drop r.pairs s)
 
 -- a query without fault stands at number `at`: query i of a sheet for T terms
 pub record Readable (s : List ℕ) (at : ℕ) : Type 0 where
@@ -38,8 +50,11 @@ pub record Readable (s : List ℕ) (at : ℕ) : Type 0 where
   pub query : Query
   pub fine : query_at s T i at ≡ good query
 
--- r stands for the query at number `at`, whichever query of a sheet for however many terms it is judged as; and its pairs are those that follow
--- its four numbers
+-- r stands for the query at number `at`, whichever query of a sheet for however many terms it is judged as; and its pairs follow its four numbers
 abbrev pub IsRecord : List ℕ → ℕ → Record → Type 0
-IsRecord s at r =
-    ((T i : ℕ) (q : Query) → query_at s T i at ≡ good q → record_of r ≡ q) × (r.pairs.now ≡ take (2 * get_or s (at + 3) 0) (drop (at + 4) s))
+IsRecord s at r = ((T i : ℕ) (q : Query) → query_at s T i at ≡ good q → record_of s r ≡ q) × (r.pairs ≡ at + 4)
+
+-- p is the query at number `at` in the same sense; and its pairs are those that follow its four numbers
+abbrev pub IsQuestion : List ℕ → ℕ → Question → Type 0
+IsQuestion s at p =
+    ((T i : ℕ) (q : Query) → query_at s T i at ≡ good q → question_of p ≡ q) × (p.pairs.now ≡ take (2 * get_or s (at + 3) 0) (drop (at + 4) s))

@@ -8,7 +8,7 @@ use Rattle.meaning.specs.SheetFits.{QueriesFit}
 use Rattle.meaning.specs.SheetLaws.{query_good, sheet_good}
 use Rattle.sheet.specs.declared.Record.{Record}
 use Rattle.sheet.specs.Record.{Readable, IsRecord, query_from}
-use Rattle.sheet.specs.QueryLaws.{RecordFits, record_fits, pairs_size, query_here}
+use Rattle.sheet.specs.QueryLaws.{RecordFits, record_fits, record_terms, query_here}
 
 -- query i of the accepted sheet s stands at number `at`
 pub record Standing (s : List ℕ) (T : ℕ) (qs : List Query) (i at : ℕ) : Type 0 where
@@ -42,19 +42,14 @@ module _ (s : List ℕ) (T : ℕ) (qs : List Query) (i at : ℕ) (st : Standing 
   standing_readable = let d = query_from s 0 in record { T = T; i = i; query = get_or qs i d; fine = standing_query d }
 
   module _ (r : Record) (is : IsRecord s at r) where
-    pub standing_fits : RecordFits T r
+    pub standing_fits : RecordFits s T r
     standing_fits = let d = query_from s 0 in record_fits s T i at (get_or qs i d) r (standing_query d) is
 
-    -- its pairs are all on the sheet
-    pub standing_inside : at + 4 + length r.pairs.now ≤ length s
-    standing_inside =
-        let d = query_from s 0 in
-        omega (arith, pairs_size s T i at (get_or qs i d) r.pairs.now (standing_query d) is.1, (query_good s T i at (get_or qs i d) (standing_query d)).all)
-
-    pub standing_next : Standing s T qs (i + 1) (at + 4 + length r.pairs.now)
+    pub standing_next : Standing s T qs (i + 1) (r.pairs + 2 * r.q)
     standing_next =
         let d = query_from s 0 in
-        record { fine = st.fine; place = omega (arith, pairs_size s T i at (get_or qs i d) r.pairs.now (standing_query d) is.1, st.place, numbers_next qs i h d) }
+        let n = record_terms s r (get_or qs i d) (is.0 T i (get_or qs i d) (standing_query d)) in
+        record { fine = st.fine; place = omega (arith, is.1, st.place, numbers_next qs i h d) }
 
 -- "numbers missing or left over": the queries of an accepted sheet take all its numbers
 all_numbers : (s : List ℕ) (T at : ℕ) (qs : List Query) → QueriesFit s T at qs → at + numbers_of qs ≡ length s
@@ -73,3 +68,12 @@ module _ (s : List ℕ) (T : ℕ) (qs : List Query) (i at : ℕ) (st : Standing 
   pub standing_over : length s ≤ at → length qs ≤ i
   standing_over h =
       by_order i (length qs) (λ l. let d = query_from s 0 in absurd (omega (arith, (query_good s T i at (get_or qs i d) (standing_query s T qs i at st l d)).four))) (λ g. g)
+
+  -- the same by the sheet's first number
+  pub standing_left : i < get_or s 0 0 → at < length s
+  standing_left h =
+      by_order at (length s) (λ l. l) (λ g. absurd (omega (arith, standing_over g, standing_count s T qs i at st)))
+
+  pub standing_done : get_or s 0 0 ≤ i → length s ≤ at
+  standing_done h =
+      by_order at (length s) (λ l. absurd (omega (arith, standing_more l, standing_count s T qs i at st))) (λ g. g)

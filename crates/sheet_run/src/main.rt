@@ -58,7 +58,7 @@ fn both(rt: &impl Print, label: &str, which: usize, value: u32) -> io::Result<()
 }
 
 // A record on a line: its mode, k, budget, number of terms, and the number at which its pairs stand.
-fn show(rt: &impl Print, record: Record, pairs: usize) -> io::Result<()> {
+fn show(rt: &impl Print, record: Record) -> io::Result<()> {
     let mode = record.mode;
     let name = match mode {
         Mode::Plain => "plain",
@@ -66,10 +66,8 @@ fn show(rt: &impl Print, record: Record, pairs: usize) -> io::Result<()> {
         Mode::All => "all terms",
     };
     println!(rt;
-        "{name}, k = {}, budget {}, terms {} at {pairs}",
-        record.k,
-        record.budget,
-        record.terms()
+        "{name}, k = {}, budget {}, terms {} at {}",
+        record.k, record.budget, record.q, record.pairs
     )
 }
 
@@ -81,9 +79,8 @@ fn records(rt: &impl Print, numbers: &[u32], terms: usize) -> io::Result<()> {
     let mut at: usize = 1;
     for _ in 0..numbers[0] {
         let record = sheet::read(numbers, at);
-        let pairs = at + 4;
-        show(rt, record, pairs)?;
-        at = pairs + record.pairs.len();
+        show(rt, record)?;
+        at = record.pairs + 2 * record.q;
     }
     Ok(())
 }

@@ -34,8 +34,11 @@ slice_bounds-rest-count c = omega (arith, turn c.loop.invariant c.loop-test.true
 pub slice_bounds-rest-start : goal.slice_bounds-rest-start
 slice_bounds-rest-start c = omega (arith, turn c.loop.invariant c.loop-test.true c.read-asked.result c.read-asked.ensures)
 
-pub overflow_add-query-in-loop : goal.overflow_add-query-in-loop
-overflow_add-query-in-loop c = omega (arith, turn c.loop.invariant c.loop-test.true c.read-asked.result c.read-asked.ensures)
+pub overflow_mul-query : goal.overflow_mul-query
+overflow_mul-query c = omega (arith, turn c.loop.invariant c.loop-test.true c.read-asked.result c.read-asked.ensures)
+
+pub overflow_add-query : goal.overflow_add-query
+overflow_add-query c = omega (arith, turn c.loop.invariant c.loop-test.true c.read-asked.result c.read-asked.ensures)
 
 pub loop-preserved : goal.loop-preserved
 loop-preserved c = go_on c.loop.invariant c.loop-test.true c.read-asked.result c.read-asked.ensures c.answer.ensures

@@ -1,14 +1,16 @@
 -- `sheet::read` reads the record of a query without fault. Assumes nothing.
 use Rattle.std.proofs.Common.{refl, arith}
-use Rattle.sheet.specs.QueryLaws.{readable_four}
-use Rattle.sheet.proofs.Laws.{reads_ok, reads_record}
+use Rattle.sheet.specs.QueryLaws.{readable_four, question_record}
+use Rattle.sheet.proofs.Laws.{reads_ok, reads_question}
 use Rattle.sheet.proofs.read.Goals as goal
 
 pub offset_bounds-sheet-at : goal.offset_bounds-sheet-at
 offset_bounds-sheet-at c = omega (arith, readable_four _ _ c.requires)
 
-pub unwrap-requires : goal.unwrap-requires
-unwrap-requires c = reads_ok _ _ _ refl _ c.four.ensures.says c.requires
+pub unwrap-query-requires : goal.unwrap-query-requires
+unwrap-query-requires c = reads_ok _ _ _ refl _ c.four.ensures.says c.requires
 
 pub returns : goal.returns
-returns c = reads_record _ _ _ refl _ c.four.ensures.says _ c.four.ensures.pairs c.unwrap.ensures
+returns c =
+    rw c.terms.ensures
+    (question_record _ _ c.unwrap-query.result (reads_question _ _ _ refl _ c.four.ensures.says _ c.four.ensures.pairs c.unwrap-query.ensures))

@@ -1,7 +1,7 @@
 -- `sheet_run::records` goes through an accepted sheet. Assumes nothing.
 use Rattle.std.proofs.Common.{arith}
 use Rattle.sheet.specs.QueryLaws.{needed_good, sheet_some}
-use Rattle.sheet.specs.Standing.{standing_first, standing_count, standing_readable, standing_inside, standing_next}
+use Rattle.sheet.specs.Standing.{standing_first, standing_count, standing_readable, standing_fits, standing_next}
 use Rattle.sheet_run.proofs.records.Goals as goal
 
 pub bounds-numbers-0 : goal.bounds-numbers-0
@@ -19,15 +19,17 @@ read-record-requires g c =
     let v = c.loop.invariant in
     standing_readable _ _ v.0 _ _ v.1 (omega (arith, standing_count _ _ v.0 _ _ v.1))
 
-pub overflow_add-pairs : goal.overflow_add-pairs
-overflow_add-pairs g c =
+pub overflow_mul-at : goal.overflow_mul-at
+overflow_mul-at g c =
     let v = c.loop.invariant in
-    omega (arith, standing_inside _ _ v.0 _ _ v.1 (omega (arith, standing_count _ _ v.0 _ _ v.1)) c.read-record.result c.read-record.ensures)
+    let f = standing_fits _ _ v.0 _ _ v.1 (omega (arith, standing_count _ _ v.0 _ _ v.1)) c.read-record.result c.read-record.ensures in
+    omega (arith, f.all)
 
 pub overflow_add-at : goal.overflow_add-at
 overflow_add-at g c =
     let v = c.loop.invariant in
-    omega (arith, standing_inside _ _ v.0 _ _ v.1 (omega (arith, standing_count _ _ v.0 _ _ v.1)) c.read-record.result c.read-record.ensures)
+    let f = standing_fits _ _ v.0 _ _ v.1 (omega (arith, standing_count _ _ v.0 _ _ v.1)) c.read-record.result c.read-record.ensures in
+    omega (arith, f.all)
 
 pub loop-preserved : goal.loop-preserved
 loop-preserved g c =
