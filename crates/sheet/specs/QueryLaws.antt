@@ -156,31 +156,35 @@ module _ (s : List ℕ) (r : Record) (p : Question) (puts : Puts s r p) (all : r
       let n = record_terms s r x.query (is.0 x.T x.i x.query x.fine) ∙ (query_good s x.T x.i at x.query x.fine).count in
       (λ T i q e. puts_same ∙ is.0 T i q e, rw (← n, ← is.1) puts.pairs)
 
--- the record whose pairs stand behind a query's four numbers
-abbrev pub record_at : ℕ → Question → Record
-record_at at p = record { mode = p.mode; k = p.k; budget = p.budget; q = terms_in p; pairs = at + 4 }
+-- a record of a question's numbers, with its pairs behind the query's four numbers
+module _
+    (s : List ℕ) (at : ℕ) (r : Record) (p : Question)
+    (mode : r.mode ≡ p.mode) (k : r.k ≡ p.k) (budget : r.budget ≡ p.budget) (count : r.q ≡ terms_in p) (place : r.pairs ≡ at + 4)
+    (is : IsQuestion s at p)
+  where
+    module _ (T i : ℕ) (q : Query) (e : query_at s T i at ≡ good q) where
+      asked_terms : r.q ≡ length q.pairs
+      asked_terms = count ∙ question_terms p q (is.0 T i q e)
 
-module _ (s : List ℕ) (at : ℕ) (p : Question) (is : IsQuestion s at p) where
-  module _ (T i : ℕ) (q : Query) (e : query_at s T i at ≡ good q) where
-    at_terms : terms_in p ≡ length q.pairs
-    at_terms = question_terms p q (is.0 T i q e)
+      asked_puts : Puts s r p
+      asked_puts =
+          let n : r.q ≡ get_or s (at + 3) 0 = asked_terms ∙ (query_good s T i at q e).count in
+          record { mode = sym mode; k = sym k; budget = sym budget; pairs = rw (n, place) is.1 }
 
-    at_puts : Puts s (record_at at p) p
-    at_puts =
-        let n : terms_in p ≡ get_or s (at + 3) 0 = at_terms ∙ (query_good s T i at q e).count in
-        record { mode = refl; k = refl; budget = refl; pairs = rw n is.1 }
+      asked_inside : r.pairs + 2 * r.q ≤ length s
+      asked_inside = omega (arith, place, asked_terms, (query_good s T i at q e).all)
 
-    at_inside : at + 4 + 2 * terms_in p ≤ length s
-    at_inside = omega (arith, at_terms, (query_good s T i at q e).all)
+    -- stands for the query that is put
+    pub question_record : IsRecord s at r
+    question_record = (λ T i q e. sym (puts_same s r p (asked_puts T i q e) (asked_inside T i q e)) ∙ is.0 T i q e, place)
 
-  -- what a question tells is so of its record
-  pub question_record : IsRecord s at (record_at at p)
-  question_record = (λ T i q e. sym (puts_same s (record_at at p) p (at_puts T i q e) (at_inside T i q e)) ∙ is.0 T i q e, refl)
-
-  -- and the question fits as the record does
-  pub question_fits : (T i : ℕ) (q : Query) → query_at s T i at ≡ good q → QuestionFits T p
-  question_fits T i q e =
-      puts_fits s (record_at at p) p (at_puts T i q e) (at_inside T i q e) T (record_fits s T i at q (record_at at p) e question_record)
+-- a question fits as its record does
+pub question_fits :
+    (s : List ℕ) (T i at : ℕ) (q : Query) (p : Question) → query_at s T i at ≡ good q → IsQuestion s at p → QuestionFits T p
+question_fits s T i at q p e is =
+    let r : Record = record { mode = p.mode; k = p.k; budget = p.budget; q = terms_in p; pairs = at + 4 } in
+    puts_fits s r p (asked_puts s at r p refl refl refl refl refl is T i q e) (asked_inside s at r p refl refl refl refl refl is T i q e) T
+    (record_fits s T i at q r e (question_record s at r p refl refl refl refl refl is))
 
 -- the first of the queries without fault, and those after it
 module _ (s : List ℕ) (T : ℕ) where

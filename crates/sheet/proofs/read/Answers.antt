@@ -12,5 +12,5 @@ unwrap-query-requires c = reads_ok _ _ _ refl _ c.four.ensures.says c.requires
 
 pub returns : goal.returns
 returns c =
-    rw c.terms.ensures
-    (question_record _ _ c.unwrap-query.result (reads_question _ _ _ refl _ c.four.ensures.says _ c.four.ensures.pairs c.unwrap-query.ensures))
+    question_record _ _ _ c.unwrap-query.result refl refl refl c.terms.ensures refl
+    (reads_question _ _ _ refl _ c.four.ensures.says _ c.four.ensures.pairs c.unwrap-query.ensures)
