@@ -49,6 +49,11 @@ pub room_told_only :
     told_as tells v ≡ roomed (told_as tells given) row → told_as tells w ≡ roomed (told_as tells given) row → v ≡ w
 room_told_only tells one given row v w a b = told_as_only tells one v w (a ∙ sym b)
 
+-- so for the table's own refusals
+pub room_refusal_only :
+    (given : Result ℕ Refusal) (row : ℕ) (v w : Result ℕ Refusal) → told v ≡ roomed (told given) row → told w ≡ roomed (told given) row → v ≡ w
+room_refusal_only given row v w a b = told_only v w (a ∙ sym b)
+
 -- two records that stand for the same query, with their pairs at the same place, are the same
 pub record_same : (s : List ℕ) (r t : Record) → record_of s r ≡ record_of s t → r.pairs ≡ t.pairs → r ≡ t
 record_same s r t e p =
